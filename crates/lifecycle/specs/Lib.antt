@@ -1,0 +1,4 @@
+pub mod Digits
+pub mod Version
+pub mod Stability
+pub mod Entry
