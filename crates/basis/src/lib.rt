@@ -1,10 +1,13 @@
-//! What the other crates share: want of memory, counts of faults, and lists that begin without memory.
+//! What the other crates share: want of memory, counts of faults, lists that begin without memory, and the texts of
+//! names.
 #![tactic(auto)]
 
 mod count;
 mod memory;
+mod names;
 mod sequence;
 
 pub use count::raised;
 pub use memory::Memory;
+pub use names::{is_camel_word, is_dotted_labels, is_label, is_lower_word, is_pascal_word};
 pub use sequence::Sequence;

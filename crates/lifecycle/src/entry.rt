@@ -14,7 +14,10 @@ pub enum ApiChange {
         enabled: bool,
     },
     /// The version's removal is planned, in favour of the `replacement` of the same resource.
-    Deprecated { removal: Minor, replacement: Text },
+    Deprecated {
+        removal: Minor,
+        replacement: Text,
+    },
     /// The version is served no more. Stored objects in it are still read.
     Removed,
     /// Objects in the version aren't read any more.

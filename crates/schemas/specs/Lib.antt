@@ -1,0 +1,4 @@
+pub mod Arrays
+pub mod Shapes
+pub mod Dated
+pub mod Fields

@@ -1,13 +1,10 @@
-// A library with one function.
+//! A release history, and the places in its document.
 #![tactic(auto)]
 
-ghost use Rattle.std.specs.Prelude.{◌≡◌};
-ghost use Rattle.schemas.specs.Echo.{echo_of};
+mod array;
+mod history;
+mod shapes;
 
-// The `ensures` clause is the contract: what `echo` returns is `echo_of` of its argument, a definition
-// in `specs/Echo.antt`, which a caller's clause can cite too.
-pub fn echo(x: usize) -> usize
-    ensures { result ≡ echo_of x }
-{
-    x
-}
+pub use array::Array;
+pub use history::{ApiList, GateList, History};
+pub use shapes::{is_gate_name, is_group, is_kind, is_resource};

@@ -1,0 +1,19 @@
+-- A release history as contracts see it.
+use Rattle.std.specs.Prelude.{ℕ, List}
+use Rattle.std.specs.declared.option.Option.{Option}
+use Rattle.std.specs.List.{AllByRecursion}
+use Rattle.gate_spec.specs.declared.entry.GateEntry.{GateEntry}
+use Rattle.lifecycle.specs.declared.entry.ApiEntry.{ApiEntry}
+use Rattle.schemas.specs.Shapes.{IsShapedGate, IsShapedApi}
+
+-- dated entries, each list in document order, and the first and the last release of which they speak
+pub record Dated : Type 0 where
+  pub first : Option ℕ
+  pub last : Option ℕ
+  pub gates : List GateEntry
+  pub apis : List ApiEntry
+
+-- each text of each entry has the shape of its member
+pub record IsShaped (h : Dated) : Type 0 where
+  pub gates : AllByRecursion IsShapedGate h.gates
+  pub apis : AllByRecursion IsShapedApi h.apis
