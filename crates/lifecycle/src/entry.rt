@@ -1,5 +1,5 @@
 ghost use Rattle.std.specs.Prelude.{◌↔◌, IsTrue};
-ghost use Rattle.lifecycle.specs.Entry.{IsIntroduction, IsRemoval, IsKnownOf, IsIntroduced, IsRemoved, IsLive};
+ghost use Rattle.lifecycle.specs.Entry.{named, IsIntroduction, IsRemoval, IsKnownOf, IsIntroduced, IsRemoved, IsLive};
 
 use minor_version::{Minor, Text};
 
@@ -57,7 +57,7 @@ impl ApiChange {
 }
 
 fn is_known_of(entry: &ApiEntry, name: ApiName<'_>, e: Minor) -> bool
-    ensures { IsTrue result ↔ IsKnownOf name.entry e entry.now }
+    ensures { IsTrue result ↔ IsKnownOf (named name.entry) e entry.now }
 {
     entry.group.bytes() == name.group
         && entry.version.bytes() == name.version
@@ -66,7 +66,7 @@ fn is_known_of(entry: &ApiEntry, name: ApiName<'_>, e: Minor) -> bool
 }
 
 fn is_introduced(entries: &[ApiEntry], name: ApiName<'_>, e: Minor) -> bool
-    ensures { IsTrue result ↔ IsIntroduced entries.now name.entry e }
+    ensures { IsTrue result ↔ IsIntroduced entries.now (named name.entry) e }
 {
     entries
         .iter()
@@ -75,7 +75,7 @@ fn is_introduced(entries: &[ApiEntry], name: ApiName<'_>, e: Minor) -> bool
 
 /// Whether a removal of the version is dated at or before the release.
 pub fn is_removed(entries: &[ApiEntry], name: ApiName<'_>, e: Minor) -> bool
-    ensures { IsTrue result ↔ IsRemoved entries.now name.entry e }
+    ensures { IsTrue result ↔ IsRemoved entries.now (named name.entry) e }
 {
     entries
         .iter()
@@ -84,7 +84,7 @@ pub fn is_removed(entries: &[ApiEntry], name: ApiName<'_>, e: Minor) -> bool
 
 /// Whether the version is there at the release: introduced at or before it, and not removed.
 pub fn live_at(entries: &[ApiEntry], name: ApiName<'_>, e: Minor) -> bool
-    ensures { IsTrue result ↔ IsLive entries.now name.entry e }
+    ensures { IsTrue result ↔ IsLive entries.now (named name.entry) e }
 {
     is_introduced(entries, name, e) && !is_removed(entries, name, e)
 }
