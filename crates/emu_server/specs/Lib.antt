@@ -1,0 +1,13 @@
+pub mod Outside
+pub mod Document
+pub mod Parts
+pub mod Listing
+pub mod Page
+pub mod Trees
+pub mod Numbers
+pub mod Words
+pub mod Lines
+pub mod Emulated
+pub mod Answer
+pub mod Run
+pub mod Written

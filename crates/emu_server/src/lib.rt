@@ -1,13 +1,19 @@
-// A library with one function.
+//! The commands of `kube_emu`, from the bytes of a history to the bytes of an answer.
 #![tactic(auto)]
 
-ghost use Rattle.std.specs.Prelude.{◌≡◌};
-ghost use Rattle.emu_server.specs.Echo.{echo_of};
+mod answer;
+mod discovery;
+mod edges;
+mod emulated;
+mod history;
+mod run;
+mod status;
+mod taking;
+mod words;
 
-// The `ensures` clause is the contract: what `echo` returns is `echo_of` of its argument, a definition
-// in `specs/Echo.antt`, which a caller's clause can cite too.
-pub fn echo(x: usize) -> usize
-    ensures { result ≡ echo_of x }
-{
-    x
-}
+pub use edges::fail_list::FailList;
+pub use edges::memory::{MemSink, MemSource};
+pub use edges::outside::{Failed, Sink, Source};
+pub use edges::standard::{StdSink, StdSource};
+pub use run::run_plain;
+pub use status::Status;

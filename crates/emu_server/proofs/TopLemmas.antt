@@ -1,0 +1,102 @@
+-- From what was taken of the source to the bytes that it held.
+use Rattle.std.proofs.Common.{◌≡◌, ℕ, ◌≤◌, ◌⊎◌, inl, inr, List, ◌++◌, length, Option, Some, None, ap, sym, ◌∙◌, subst, arith}
+use Rattle.std.specs.Io.KnownBytes.{Keeps, Appends, Consumes, IsAtEnd}
+use Rattle.std.proofs.lemmas.List.{append-nil, length-append}
+use Rattle.emu_server.specs.declared.history.HistoryFault.{HistoryFault}
+use Rattle.emu_server.specs.declared.history.HistoryFault.TheVariants as fault
+use Rattle.emu_server.specs.declared.status.Status.{Status}
+use Rattle.emu_server.specs.declared.status.Status.TheVariants as status
+use Rattle.emu_server.specs.declared.words.Command.{Command}
+use Rattle.emu_server.specs.declared.words.Command.TheVariants.{Discover}
+use Rattle.emu_server.specs.Answer.{IsHistoryRefusal, IsAnswerTo, IsAnswer}
+use Rattle.emu_server.specs.Document.{IsRefused}
+use Rattle.emu_server.specs.Lines.{read_fault_line}
+use Rattle.emu_server.specs.Run.{IsEnd}
+use Rattle.emu_server.specs.Words.{AsksFor}
+use Rattle.emu_server.specs.Written.{IsWritten}
+
+-- the bytes that the source held, where these were taken of it
+pub held : Option (List ℕ) → List ℕ → List ℕ
+held None v = v
+held (Some xs) v = xs
+
+pub held-known : (a : Option (List ℕ)) (v : List ℕ) → Keeps a (Some (held a v))
+unfolding held
+held-known None v = tt
+held-known (Some xs) v = λ i. xs
+
+refusal_up : (v rest : List ℕ) (f : HistoryFault) → (length v ≤ 1048576 → v ≡ v ++ rest) → IsRefused v f → IsRefused (v ++ rest) f
+refusal_up v rest fault.Memory whole h = absurd h
+refusal_up v rest fault.TooLong whole h = omega (arith, length-append v rest)
+refusal_up v rest fault.NotToml whole h = subst (λ b. IsRefused b fault.NotToml) (whole h.0) h
+refusal_up v rest fault.NotAccepted whole h = subst (λ b. IsRefused b fault.NotAccepted) (whole h.0) h
+
+history_up : (v rest line : List ℕ) → (length v ≤ 1048576 → v ≡ v ++ rest) → IsHistoryRefusal v line → IsHistoryRefusal (v ++ rest) line
+history_up v rest line whole (inl h) = inl (h.0, refusal_up v rest h.0 whole h.1, h.2)
+history_up v rest line whole (inr h) = subst (λ b. IsHistoryRefusal b line) (whole h.1.0) (inr h)
+
+answer_to_up : (c : Command) (v rest : List ℕ) (s : Status) (text : List ℕ) → (length v ≤ 1048576 → v ≡ v ++ rest) → IsAnswerTo c v s text → IsAnswerTo c (v ++ rest) s text
+answer_to_up c v rest status.History text whole h = history_up v rest text whole h
+answer_to_up c v rest status.Ok text whole h = subst (λ b. IsAnswerTo c b status.Ok text) (whole h.3.0.0) h
+answer_to_up c v rest status.Flags text whole h = subst (λ b. IsAnswerTo c b status.Flags text) (whole h.3.0.0) h
+answer_to_up c v rest status.Usage text whole h = subst (λ b. IsAnswerTo c b status.Usage text) (whole h.3.0.0) h
+answer_to_up c v rest status.Memory text whole h = subst (λ b. IsAnswerTo c b status.Memory text) (whole h.3.0.0) h
+answer_to_up c v rest status.ReadFault text whole h = subst (λ b. IsAnswerTo c b status.ReadFault text) (whole h.3.0.0) h
+answer_to_up c v rest status.WriteFault text whole h = subst (λ b. IsAnswerTo c b status.WriteFault text) (whole h.3.0.0) h
+answer_to_up c v rest status.DiskFault text whole h = subst (λ b. IsAnswerTo c b status.DiskFault text) (whole h.3.0.0) h
+answer_to_up c v rest status.FrontFault text whole h = subst (λ b. IsAnswerTo c b status.FrontFault text) (whole h.3.0.0) h
+answer_to_up c v rest status.Store text whole h = subst (λ b. IsAnswerTo c b status.Store text) (whole h.3.0.0) h
+answer_to_up c v rest status.Spent text whole h = subst (λ b. IsAnswerTo c b status.Spent text) (whole h.3.0.0) h
+
+answer_held : (c : Command) (a b : Option (List ℕ)) (v : List ℕ) (s : Status) (text : List ℕ) → Consumes a b v → (length v ≤ 1048576 → IsAtEnd b) → IsAnswerTo c v s text → IsAnswerTo c (held a v) s text
+unfolding held
+answer_held c None b v s text taken end h = h
+answer_held c (Some xs) None v s text taken end h = absurd taken
+answer_held c (Some xs) (Some ys) v s text taken end h =
+    subst (λ bytes. IsAnswerTo c bytes s text) (sym taken) (answer_to_up c v ys s text (λ short. sym (ap (λ rest. v ++ rest) (end short) ∙ append-nil v)) h)
+
+-- an accepted history has no work that ends in these ways
+idle : (c : Command) (bytes : List ℕ) (text : List ℕ) → IsAnswerTo c bytes status.Usage text ⊎ (IsAnswerTo c bytes status.Memory text ⊎ (IsAnswerTo c bytes status.ReadFault text ⊎ IsAnswerTo c bytes status.WriteFault text)) → ⊥
+idle (Discover e) bytes text (inl h) = h.4
+idle (Discover e) bytes text (inr (inl h)) = h.4
+idle (Discover e) bytes text (inr (inr (inl h))) = h.4
+idle (Discover e) bytes text (inr (inr (inr h))) = h.4
+
+answer_from : (words : List (List ℕ)) (bytes : List ℕ) (c : Command) (s : Status) (text : List ℕ) → AsksFor words c → IsAnswerTo c bytes s text → IsAnswer words bytes s text
+answer_from words bytes c status.Usage text asks h = absurd (idle c bytes text (inl h))
+answer_from words bytes c status.Ok text asks h = (c, asks, h)
+answer_from words bytes c status.Memory text asks h = (c, asks, h)
+answer_from words bytes c status.ReadFault text asks h = (c, asks, h)
+answer_from words bytes c status.WriteFault text asks h = (c, asks, h)
+answer_from words bytes c status.DiskFault text asks h = (c, asks, h)
+answer_from words bytes c status.FrontFault text asks h = (c, asks, h)
+answer_from words bytes c status.History text asks h = (c, asks, h)
+answer_from words bytes c status.Flags text asks h = (c, asks, h)
+answer_from words bytes c status.Store text asks h = (c, asks, h)
+answer_from words bytes c status.Spent text asks h = (c, asks, h)
+
+whole_end : (words : List (List ℕ)) (bytes : List ℕ) (s : Status) (old new : Option (List ℕ)) (text : List ℕ) → IsAnswer words bytes s text → Appends old new text → IsEnd words bytes s old new
+whole_end words bytes status.Usage old new text h written = (text, h, written)
+whole_end words bytes status.Ok old new text h written = (text, h, written)
+whole_end words bytes status.Memory old new text h written = absurd (idle h.0 bytes text (inr (inl h.2)))
+whole_end words bytes status.ReadFault old new text h written = absurd (idle h.0 bytes text (inr (inr (inl h.2))))
+whole_end words bytes status.WriteFault old new text h written = absurd (idle h.0 bytes text (inr (inr (inr h.2))))
+whole_end words bytes status.DiskFault old new text h written = (text, h, written)
+whole_end words bytes status.FrontFault old new text h written = (text, h, written)
+whole_end words bytes status.History old new text h written = (text, h, written)
+whole_end words bytes status.Flags old new text h written = (text, h, written)
+whole_end words bytes status.Store old new text h written = (text, h, written)
+whole_end words bytes status.Spent old new text h written = (text, h, written)
+
+pub answer_ends : (words : List (List ℕ)) (bytes : List ℕ) (s r : Status) (old new : Option (List ℕ)) (text : List ℕ) → IsAnswer words bytes s text → IsWritten old new r s text → IsEnd words bytes r old new
+answer_ends words bytes s r old new text h (inl w) = subst (λ x. IsEnd words bytes x old new) (sym w.0) (whole_end words bytes s old new text h w.1)
+answer_ends words bytes s r old new text h (inr w) = subst (λ x. IsEnd words bytes x old new) (sym w.0) (text, inl (s, h), w.1)
+
+pub taken_ends : (words : List (List ℕ)) (c : Command) (a b : Option (List ℕ)) (v : List ℕ) (s r : Status) (old new : Option (List ℕ)) (text : List ℕ) → AsksFor words c → Consumes a b v → (length v ≤ 1048576 → IsAtEnd b)
+    → IsAnswerTo c v s text → IsWritten old new r s text → IsEnd words (held a v) r old new
+taken_ends words c a b v s r old new text asks taken end h w =
+    answer_ends words (held a v) s r old new text (answer_from words (held a v) c s text asks (answer_held c a b v s text taken end h)) w
+
+pub read_fault_ends : (words : List (List ℕ)) (c : Command) (bytes : List ℕ) (r : Status) (old new : Option (List ℕ)) → AsksFor words c → IsWritten old new r status.ReadFault read_fault_line → IsEnd words bytes r old new
+read_fault_ends words c bytes r old new asks (inl w) = subst (λ x. IsEnd words bytes x old new) (sym w.0) ((c, asks), w.1)
+read_fault_ends words c bytes r old new asks (inr w) = subst (λ x. IsEnd words bytes x old new) (sym w.0) (read_fault_line, inr ((c, asks), λ i. read_fault_line), w.1)

@@ -1,0 +1,6 @@
+//! The group list of a release.
+
+mod listing;
+mod page;
+
+pub use page::group_list;
