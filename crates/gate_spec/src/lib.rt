@@ -2,5 +2,7 @@
 #![tactic(auto)]
 
 mod entry;
+mod stage;
 
 pub use entry::{GateChange, GateEntry, SpecAt, Stage};
+pub use stage::stage_named;
