@@ -1,0 +1,45 @@
+-- The shapes of values.
+use Rattle.std.proofs.Common.{◌≡◌, ◌↔◌, ℕ, Bool, IsTrue, List, [], ◌∷◌, Option, Some, None, IsSome, IsSomeAnd, All, option_and_then, refl, sym, subst}
+use Rattle.std.specs.List.{AllByRecursion}
+use Rattle.std.proofs.lemmas.List.Elements.{recursion_from_All, All-from_recursion}
+use Rattle.toml.specs.Data.{Data, as_str, as_table}
+use Rattle.toml.specs.View.{view, items_view}
+use Rattle.toml.specs.declared.value.Value.{Value}
+use Rattle.history_reader.specs.declared.demand.Shape.{Shape}
+use Rattle.history_reader.specs.declared.demand.Shape.TheVariants.{Release, GateName, StageWord, Flag, OnlyTrue, GroupName, VersionWord, ResourceName, KindName, EventWord, Tables}
+use Rattle.history_reader.specs.Demands.{AreTables, TextHasShape, HasShape}
+
+-- a shape that is none of the other types' is that of a text
+pub text_shape : (s : Shape) (d : Data) (t : List ℕ) (b : Bool) → (s ≡ Flag → ⊥) → (s ≡ OnlyTrue → ⊥) → (s ≡ Tables → ⊥)
+    → Some t ≡ as_str d → IsTrue b ↔ TextHasShape s t → IsTrue b ↔ HasShape s d
+text_shape Release d t b f o a e h = rw (← e) h
+text_shape GateName d t b f o a e h = rw (← e) h
+text_shape StageWord d t b f o a e h = rw (← e) h
+text_shape Flag d t b f o a e h = absurd (f refl)
+text_shape OnlyTrue d t b f o a e h = absurd (o refl)
+text_shape GroupName d t b f o a e h = rw (← e) h
+text_shape VersionWord d t b f o a e h = rw (← e) h
+text_shape ResourceName d t b f o a e h = rw (← e) h
+text_shape KindName d t b f o a e h = rw (← e) h
+text_shape EventWord d t b f o a e h = rw (← e) h
+text_shape Tables d t b f o a e h = absurd (a refl)
+
+tables_down : (vs : List Value) → AllByRecursion (λ v. IsSome (as_table (view v))) vs → AreTables (items_view vs)
+tables_down [] h = tt
+tables_down (v ∷ vs) h = (h.0, tables_down vs h.1)
+
+tables_up : (vs : List Value) → AreTables (items_view vs) → AllByRecursion (λ v. IsSome (as_table (view v))) vs
+tables_up [] h = tt
+tables_up (v ∷ vs) h = (h.0, tables_up vs h.1)
+
+pub all_tables : (vs : List Value) → All (λ v. IsSome (as_table (view v))) vs ↔ AreTables (items_view vs)
+all_tables vs = (λ h. tables_down vs (recursion_from_All _ vs h), λ h. All-from_recursion _ vs (tables_up vs h))
+
+shaped_str : (P : List ℕ → Type 0) (o : Option (List ℕ)) (t : List ℕ) → IsSomeAnd o P → o ≡ Some t → P t
+shaped_str P None t h e = absurd h
+shaped_str P (Some s) t h e = let same : s ≡ t = cc in subst P same h
+
+-- the text of a member whose text is shaped
+pub shaped_text : (P : List ℕ → Type 0) (o : Option Data) (t u : List ℕ) → IsSomeAnd o (λ d. IsSomeAnd (as_str d) P) → option_and_then as_str o ≡ Some t → u ≡ t → P u
+shaped_text P None t u h e same = absurd h
+shaped_text P (Some d) t u h e same = subst P (sym same) (shaped_str P (as_str d) t h e)

@@ -1,0 +1,4 @@
+pub mod DemandLemmas
+pub mod TestLemmas
+pub mod TableLemmas
+pub mod EntryLemmas

@@ -1,0 +1,7 @@
+pub mod Names
+pub mod Tree
+pub mod Demands
+pub mod Rows
+pub mod Tests
+pub mod Faults
+pub mod Meaning

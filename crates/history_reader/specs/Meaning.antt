@@ -1,0 +1,114 @@
+-- What a history document means.
+use Rattle.std.specs.Prelude.{ℕ, ◌≡◌, ◌<◌, ◌≤◌, true, false, List, [], ◌∷◌, length, Some, None, unwrap_or, option_map, codes}
+use Rattle.std.specs.declared.option.Option.{Option}
+use Rattle.std.specs.List.{AllByRecursion}
+use Rattle.std.specs.Str.{IsUtf8}
+use Rattle.toml.specs.Data.{Members}
+use Rattle.toml.specs.Parse.{parse_document}
+use Rattle.minor_version.specs.Release.{release_text}
+use Rattle.gate_spec.specs.Stages.{stage_word}
+use Rattle.gate_spec.specs.declared.entry.GateChange.{GateChange}
+use Rattle.gate_spec.specs.declared.entry.GateChange.TheVariants.{Spec, Gone}
+use Rattle.gate_spec.specs.declared.entry.GateEntry.{GateEntry}
+use Rattle.lifecycle.specs.declared.entry.ApiChange.{ApiChange}
+use Rattle.lifecycle.specs.declared.entry.ApiChange.TheVariants.{Introduced, Deprecated, Removed, Forgotten}
+use Rattle.lifecycle.specs.declared.entry.ApiEntry.{ApiEntry}
+use Rattle.schemas.specs.Dated.{Dated}
+use Rattle.history_reader.specs.declared.read.HistoryFault.{HistoryFault}
+use Rattle.history_reader.specs.declared.read.HistoryFault.TheVariants.{Memory, TooLong, NotToml, BadEntry}
+use Rattle.history_reader.specs.Tree.{text_at, flag_at, tables_at}
+use Rattle.history_reader.specs.Tests.{Passes, IsFirstFault, document_tests}
+
+-- a text longer than this many bytes is no history document
+abbrev pub longest_document : ℕ
+longest_document = 1048576
+
+-- the member holds the release's text, or there is neither
+abbrev pub HoldsRelease : Members → List ℕ → Option ℕ → Type 0
+HoldsRelease ms name release = text_at name ms ≡ option_map release_text release
+
+-- the table tells this change of a gate; `locked` that is missing is false
+abbrev pub IsGateChange : Members → GateChange → Type 0
+IsGateChange ms (Spec stage default locked) =
+    (flag_at (codes "removed") ms ≡ None)
+    × (text_at (codes "stage") ms ≡ Some (stage_word stage))
+    × (flag_at (codes "default") ms ≡ Some default)
+    × (unwrap_or (flag_at (codes "locked") ms) false ≡ locked)
+IsGateChange ms Gone = flag_at (codes "removed") ms ≡ Some true
+
+-- the table is this entry
+pub record IsGateEntry (ms : Members) (x : GateEntry) : Type 0 where
+  pub name : text_at (codes "name") ms ≡ Some x.name
+  pub since : text_at (codes "since") ms ≡ Some (release_text x.since)
+  pub change : IsGateChange ms x.change
+
+-- the table tells this change of an API version
+abbrev pub IsApiChange : Members → ApiChange → Type 0
+IsApiChange ms (Introduced kind singular namespaced enabled) =
+    (text_at (codes "event") ms ≡ Some (codes "introduced"))
+    × (text_at (codes "kind") ms ≡ Some kind)
+    × (text_at (codes "singular") ms ≡ Some singular)
+    × (flag_at (codes "namespaced") ms ≡ Some namespaced)
+    × (flag_at (codes "enabled") ms ≡ Some enabled)
+IsApiChange ms (Deprecated removal replacement) =
+    (text_at (codes "event") ms ≡ Some (codes "deprecated"))
+    × (text_at (codes "removal") ms ≡ Some (release_text removal))
+    × (text_at (codes "replacement") ms ≡ Some replacement)
+IsApiChange ms Removed = text_at (codes "event") ms ≡ Some (codes "removed")
+IsApiChange ms Forgotten = text_at (codes "event") ms ≡ Some (codes "forgotten")
+
+-- the table is this entry
+pub record IsApiEntry (ms : Members) (x : ApiEntry) : Type 0 where
+  pub group : text_at (codes "group") ms ≡ Some x.group
+  pub version : text_at (codes "version") ms ≡ Some x.version
+  pub resource : text_at (codes "resource") ms ≡ Some x.resource
+  pub since : text_at (codes "since") ms ≡ Some (release_text x.since)
+  pub change : IsApiChange ms x.change
+
+-- the tables are these entries, one for one, in order
+abbrev pub AreEntries : {X : Type 0} → (Members → X → Type 0) → List Members → List X → Type 0
+AreEntries IsEntry [] [] = Unit {0}
+AreEntries IsEntry (t ∷ ts) (x ∷ xs) = IsEntry t x × AreEntries IsEntry ts xs
+AreEntries IsEntry _ _ = ⊥
+
+-- the tree is this history
+pub record IsHistory (ms : Members) (h : Dated) : Type 0 where
+  pub first : HoldsRelease ms (codes "first") h.first
+  pub last : HoldsRelease ms (codes "last") h.last
+  pub gates : AreEntries IsGateEntry (tables_at (codes "gate") ms) h.gates
+  pub apis : AreEntries IsApiEntry (tables_at (codes "api") ms) h.apis
+
+-- the bytes are a text that TOML reads as this tree
+pub record ReadsAs (text : List ℕ) (ms : Members) : Type 0 where
+  pub utf8 : IsUtf8 text
+  pub parsed : parse_document text ≡ Some ms
+
+-- the tree passes its tests and is this history
+pub record MeansTree (ms : Members) (h : Dated) : Type 0 where
+  pub passed : AllByRecursion Passes (document_tests ms)
+  pub history : IsHistory ms h
+
+-- why a tree is no history: its first fault; want of memory is free
+abbrev pub IsTreeFault : Members → HistoryFault → Type 0
+IsTreeFault ms Memory = Unit {0}
+IsTreeFault ms TooLong = ⊥
+IsTreeFault ms NotToml = ⊥
+IsTreeFault ms (BadEntry array index name) = IsFirstFault (document_tests ms) (record { array = array; index = index; member = name })
+
+-- the bytes are short enough, and read as a tree of which this holds
+pub record ReadsSo (text : List ℕ) (So : Members → Type 0) : Type 0 where
+  pub short : length text ≤ longest_document
+  pub tree : Members
+  pub reads : ReadsAs text tree
+  pub so : So tree
+
+-- the bytes are a history document of this history
+abbrev pub MeansHistory : List ℕ → Dated → Type 0
+MeansHistory text h = ReadsSo text (λ ms. MeansTree ms h)
+
+-- why the bytes are no history document; want of memory is free
+abbrev pub IsRefused : List ℕ → HistoryFault → Type 0
+IsRefused text Memory = Unit {0}
+IsRefused text TooLong = longest_document < length text
+IsRefused text NotToml = (length text ≤ longest_document) × ((ms : Members) → ¬ ReadsAs text ms)
+IsRefused text (BadEntry array index name) = ReadsSo text (λ ms. IsTreeFault ms (BadEntry array index name))

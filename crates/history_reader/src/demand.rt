@@ -1,0 +1,124 @@
+//! What a member of a history document must hold.
+ghost use Rattle.std.specs.Prelude.{◌↔◌, IsTrue, IsSome, All, option_map};
+ghost use Rattle.toml.specs.View.{view, array_view};
+ghost use Rattle.lifecycle.specs.Version.{IsVersion};
+ghost use Rattle.toml.specs.Data.{as_array, as_str, as_table};
+ghost use Rattle.history_reader.specs.Demands.{IsRelease, IsStage, IsEvent, AreTables, TextHasShape, HasShape, Meets};
+
+use gate_spec::stage_named;
+use lifecycle::version_word;
+use minor_version::parse_plain;
+use schemas::{is_gate_name, is_group, is_kind, is_resource};
+use toml::Value;
+use toml::value::Array;
+
+/// The type and the shape of a member's value.
+#[derive(Clone, Copy, Debug, PartialEq, Eq)]
+pub enum Shape {
+    Release,
+    GateName,
+    StageWord,
+    Flag,
+    /// The boolean `true` alone.
+    OnlyTrue,
+    GroupName,
+    VersionWord,
+    ResourceName,
+    KindName,
+    EventWord,
+    /// An array of tables, also of none.
+    Tables,
+}
+
+/// What must stand at a member.
+#[derive(Clone, Copy, Debug, PartialEq, Eq)]
+pub enum Demand {
+    Required(Shape),
+    Optional(Shape),
+    Absent,
+}
+
+fn is_release(text: &[u8]) -> bool
+    ensures { IsTrue result ↔ IsRelease text.now }
+{
+    parse_plain(text).is_some()
+}
+
+fn is_stage(text: &[u8]) -> bool
+    ensures { IsTrue result ↔ IsStage text.now }
+{
+    stage_named(text).is_some()
+}
+
+fn is_version(text: &[u8]) -> bool
+    ensures { IsTrue result ↔ IsVersion text.now }
+{
+    version_word(text).is_some()
+}
+
+fn is_event(text: &str) -> bool
+    ensures { IsTrue result ↔ IsEvent text.now }
+{
+    matches!(text, "introduced" | "deprecated" | "removed" | "forgotten")
+}
+
+fn all_tables(items: &[Value]) -> bool
+    ensures { IsTrue result ↔ All (λ v. IsSome (as_table (view v))) items.now }
+{
+    items.iter().all(|value| value.is_table())
+}
+
+fn are_tables(array: &Array) -> bool
+    ensures { IsTrue result ↔ AreTables (array_view array.now) }
+{
+    all_tables(array.as_slice())
+}
+
+/// Whether the text is of a shape that texts have.
+fn text_has_shape(shape: Shape, text: &str) -> bool
+    ensures { IsTrue result ↔ TextHasShape shape text.now }
+{
+    let bytes = text.as_bytes();
+    match shape {
+        Shape::Release => is_release(bytes),
+        Shape::GateName => is_gate_name(bytes),
+        Shape::StageWord => is_stage(bytes),
+        Shape::GroupName => is_group(bytes),
+        Shape::VersionWord => is_version(bytes),
+        Shape::ResourceName => is_resource(bytes),
+        Shape::KindName => is_kind(bytes),
+        Shape::EventWord => is_event(text),
+        Shape::Flag | Shape::OnlyTrue | Shape::Tables => false,
+    }
+}
+
+/// Whether the value is of the type and the shape.
+pub fn has_shape(shape: Shape, value: &Value) -> bool
+    ensures { IsTrue result ↔ HasShape shape (view value.now) }
+{
+    match shape {
+        Shape::Flag => value.is_bool(),
+        Shape::OnlyTrue => value.as_bool() == Some(true),
+        Shape::Tables => match value.as_array() {
+            Some(array) => are_tables(array),
+            None => false,
+        },
+        _ => match value.as_str() {
+            Some(text) => text_has_shape(shape, text),
+            None => false,
+        },
+    }
+}
+
+/// Whether what stands at a member, if anything does, is what must stand there.
+pub fn meets(demand: Demand, found: Option<&Value>) -> bool
+    ensures { IsTrue result ↔ Meets demand (option_map (λ v. view v.now) found.entry) }
+{
+    match (demand, found) {
+        (Demand::Required(shape), Some(value)) => has_shape(shape, value),
+        (Demand::Required(_), None) => false,
+        (Demand::Optional(shape), Some(value)) => has_shape(shape, value),
+        (Demand::Optional(_), None) => true,
+        (Demand::Absent, found) => found.is_none(),
+    }
+}

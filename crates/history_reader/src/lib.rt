@@ -1,0 +1,19 @@
+//! A release history from its document (TOML v1.0.0), or the first fault of the document and its place.
+//!
+//! What a document may hold is the member table: `rows` has the rows of each table, `demand` what a row can demand,
+//! and `fault` goes over them in order. `gates` and `apis` make entries of tables in which no fault was found.
+#![tactic(auto)]
+
+mod apis;
+mod demand;
+mod fault;
+mod gates;
+mod member;
+mod read;
+mod rows;
+#[cfg(test)]
+mod tests;
+mod tree;
+
+pub use read::{HistoryFault, read_history};
+pub use schemas::Array;

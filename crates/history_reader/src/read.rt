@@ -1,0 +1,110 @@
+//! A history from the bytes of a document.
+ghost use Rattle.std.specs.Prelude.{◌≡◌, IfOk, IfErr, IfSome};
+ghost use Rattle.std.specs.List.{AllByRecursion};
+ghost use Rattle.toml.specs.View.{table_view};
+ghost use Rattle.toml.specs.Data.{get_member};
+ghost use Rattle.history_reader.specs.declared.demand.Shape.{Shape as TheShape};
+ghost use Rattle.history_reader.specs.Names.{member_name};
+ghost use Rattle.history_reader.specs.Demands.{HasShape};
+ghost use Rattle.history_reader.specs.Tests.{Passes, document_tests};
+ghost use Rattle.history_reader.specs.Meaning.{HoldsRelease, IsHistory, MeansTree, IsTreeFault, MeansHistory, IsRefused};
+
+use crate::apis::api_entries;
+use crate::fault::document_fault;
+use crate::gates::gate_entries;
+use crate::member::Member;
+use crate::tree::{items_of_array, text_member};
+use basis::Memory;
+use minor_version::{Minor, Text, parse_plain};
+use schemas::{Array, History};
+use std::alloc::Global;
+use toml::Table;
+
+/// The greatest length of a history document, in bytes.
+const LONGEST_DOCUMENT: usize = 1_048_576;
+
+/// Why bytes are no history document.
+#[derive(Debug, Drop)]
+pub enum HistoryFault {
+    /// Memory ran out.
+    Memory,
+    /// The document has more than 1,048,576 bytes.
+    TooLong,
+    /// The bytes aren't TOML.
+    NotToml,
+    /// A member isn't as it must be. Entries count from 1; `Top` has the index 0.
+    BadEntry {
+        array: Array,
+        index: u64,
+        member: Text,
+    },
+}
+
+/// The release of a member that is missing or holds its text.
+fn optional_release(table: &Table, member: Member) -> Option<Minor>
+    requires { IfSome (get_member (member_name member) (table_view table.now)) (HasShape TheShape.Release) }
+    ensures { HoldsRelease (table_view table.now) (member_name member) result }
+{
+    match text_member(table, member) {
+        Some(text) => parse_plain(text.as_bytes()),
+        None => None,
+    }
+}
+
+/// The history that a document is in which there is no fault.
+fn history_of(alloc: Global, table: &Table) -> Result<History, Memory>
+    requires { AllByRecursion Passes (document_tests (table_view table.now)) }
+    ensures { IfOk result (IsHistory (table_view table.now)) }
+{
+    let first = optional_release(table, Member::First);
+    let last = optional_release(table, Member::Last);
+    let gates = gate_entries(alloc, items_of_array(table, Array::Gate))?;
+    let apis = api_entries(alloc, items_of_array(table, Array::Api))?;
+    Ok(History {
+        first,
+        last,
+        gates,
+        apis,
+    })
+}
+
+/// The history that a document is, or its first fault.
+fn read_table(alloc: Global, table: &Table) -> Result<History, HistoryFault>
+    ensures ok { IfOk result (MeansTree (table_view table.now)) }
+    ensures refused { IfErr result (IsTreeFault (table_view table.now)) }
+{
+    if let Some(fault) = document_fault(table) {
+        return match Text::from_str(alloc, fault.member) {
+            Ok(member) => Err(HistoryFault::BadEntry {
+                array: fault.array,
+                index: fault.index,
+                member,
+            }),
+            Err(_) => Err(HistoryFault::Memory),
+        };
+    }
+    match history_of(alloc, table) {
+        Ok(history) => Ok(history),
+        Err(_) => Err(HistoryFault::Memory),
+    }
+}
+
+/// The release history that a document is: TOML of at most 1,048,576 bytes by the member table.
+pub fn read_history(alloc: Global, text: &[u8]) -> Result<History, HistoryFault>
+    ensures ok { IfOk result (MeansHistory text.now) }
+    ensures refused { IfErr result (IsRefused text.now) }
+{
+    if text.len() > LONGEST_DOCUMENT {
+        return Err(HistoryFault::TooLong);
+    }
+    match toml::table_from_slice(alloc, text) {
+        Ok(table) => read_table(alloc, &table),
+        Err(error) => {
+            if error.is_memory() {
+                Err(HistoryFault::Memory)
+            } else {
+                Err(HistoryFault::NotToml)
+            }
+        }
+    }
+}
