@@ -2,3 +2,4 @@ pub mod DemandLemmas
 pub mod TestLemmas
 pub mod TableLemmas
 pub mod EntryLemmas
+pub mod LawLemmas

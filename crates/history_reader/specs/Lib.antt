@@ -5,3 +5,4 @@ pub mod Rows
 pub mod Tests
 pub mod Faults
 pub mod Meaning
+pub mod Laws

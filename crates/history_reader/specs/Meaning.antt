@@ -1,11 +1,10 @@
 -- What a history document means.
-use Rattle.std.specs.Prelude.{ℕ, ◌≡◌, ◌<◌, ◌≤◌, true, false, List, [], ◌∷◌, length, Some, None, unwrap_or, option_map, codes}
+use Rattle.std.specs.Prelude.{ℕ, ◌≡◌, ◌<◌, ◌≤◌, true, false, List, [], ◌∷◌, length, Some, None, MatchOption, unwrap_or, codes}
 use Rattle.std.specs.declared.option.Option.{Option}
 use Rattle.std.specs.List.{AllByRecursion}
 use Rattle.std.specs.Str.{IsUtf8}
 use Rattle.toml.specs.Data.{Members}
 use Rattle.toml.specs.Parse.{parse_document}
-use Rattle.minor_version.specs.Release.{release_text}
 use Rattle.gate_spec.specs.Stages.{stage_word}
 use Rattle.gate_spec.specs.declared.entry.GateChange.{GateChange}
 use Rattle.gate_spec.specs.declared.entry.GateChange.TheVariants.{Spec, Gone}
@@ -16,16 +15,16 @@ use Rattle.lifecycle.specs.declared.entry.ApiEntry.{ApiEntry}
 use Rattle.schemas.specs.Dated.{Dated}
 use Rattle.history_reader.specs.declared.read.HistoryFault.{HistoryFault}
 use Rattle.history_reader.specs.declared.read.HistoryFault.TheVariants.{Memory, TooLong, NotToml, BadEntry}
-use Rattle.history_reader.specs.Tree.{text_at, flag_at, tables_at}
+use Rattle.history_reader.specs.Tree.{IsReleaseAt, text_at, flag_at, tables_at}
 use Rattle.history_reader.specs.Tests.{Passes, IsFirstFault, document_tests}
 
 -- a text longer than this many bytes is no history document
 abbrev pub longest_document : ℕ
 longest_document = 1048576
 
--- the member holds the release's text, or there is neither
-abbrev pub HoldsRelease : Members → List ℕ → Option ℕ → Type 0
-HoldsRelease ms name release = text_at name ms ≡ option_map release_text release
+-- the member holds the text of the release, or there is neither
+abbrev pub HoldsRelease : List ℕ → Members → Option ℕ → Type 0
+HoldsRelease name ms release = MatchOption release (text_at name ms ≡ None) (IsReleaseAt name ms)
 
 -- the table tells this change of a gate; `locked` that is missing is false
 abbrev pub IsGateChange : Members → GateChange → Type 0
@@ -39,7 +38,7 @@ IsGateChange ms Gone = flag_at (codes "removed") ms ≡ Some true
 -- the table is this entry
 pub record IsGateEntry (ms : Members) (x : GateEntry) : Type 0 where
   pub name : text_at (codes "name") ms ≡ Some x.name
-  pub since : text_at (codes "since") ms ≡ Some (release_text x.since)
+  pub since : IsReleaseAt (codes "since") ms x.since
   pub change : IsGateChange ms x.change
 
 -- the table tells this change of an API version
@@ -52,7 +51,7 @@ IsApiChange ms (Introduced kind singular namespaced enabled) =
     × (flag_at (codes "enabled") ms ≡ Some enabled)
 IsApiChange ms (Deprecated removal replacement) =
     (text_at (codes "event") ms ≡ Some (codes "deprecated"))
-    × (text_at (codes "removal") ms ≡ Some (release_text removal))
+    × IsReleaseAt (codes "removal") ms removal
     × (text_at (codes "replacement") ms ≡ Some replacement)
 IsApiChange ms Removed = text_at (codes "event") ms ≡ Some (codes "removed")
 IsApiChange ms Forgotten = text_at (codes "event") ms ≡ Some (codes "forgotten")
@@ -62,7 +61,7 @@ pub record IsApiEntry (ms : Members) (x : ApiEntry) : Type 0 where
   pub group : text_at (codes "group") ms ≡ Some x.group
   pub version : text_at (codes "version") ms ≡ Some x.version
   pub resource : text_at (codes "resource") ms ≡ Some x.resource
-  pub since : text_at (codes "since") ms ≡ Some (release_text x.since)
+  pub since : IsReleaseAt (codes "since") ms x.since
   pub change : IsApiChange ms x.change
 
 -- the tables are these entries, one for one, in order
@@ -73,8 +72,8 @@ AreEntries IsEntry _ _ = ⊥
 
 -- the tree is this history
 pub record IsHistory (ms : Members) (h : Dated) : Type 0 where
-  pub first : HoldsRelease ms (codes "first") h.first
-  pub last : HoldsRelease ms (codes "last") h.last
+  pub first : HoldsRelease (codes "first") ms h.first
+  pub last : HoldsRelease (codes "last") ms h.last
   pub gates : AreEntries IsGateEntry (tables_at (codes "gate") ms) h.gates
   pub apis : AreEntries IsApiEntry (tables_at (codes "api") ms) h.apis
 
@@ -95,20 +94,20 @@ IsTreeFault ms TooLong = ⊥
 IsTreeFault ms NotToml = ⊥
 IsTreeFault ms (BadEntry array index name) = IsFirstFault (document_tests ms) (record { array = array; index = index; member = name })
 
--- the bytes are short enough, and read as a tree of which this holds
-pub record ReadsSo (text : List ℕ) (So : Members → Type 0) : Type 0 where
+-- the bytes are short enough, and read as a tree of which P holds
+pub record IsDocument (text : List ℕ) (P : Members → Type 0) : Type 0 where
   pub short : length text ≤ longest_document
   pub tree : Members
   pub reads : ReadsAs text tree
-  pub so : So tree
+  pub holds : P tree
 
 -- the bytes are a history document of this history
 abbrev pub MeansHistory : List ℕ → Dated → Type 0
-MeansHistory text h = ReadsSo text (λ ms. MeansTree ms h)
+MeansHistory text h = IsDocument text (λ ms. MeansTree ms h)
 
 -- why the bytes are no history document; want of memory is free
 abbrev pub IsRefused : List ℕ → HistoryFault → Type 0
 IsRefused text Memory = Unit {0}
 IsRefused text TooLong = longest_document < length text
 IsRefused text NotToml = (length text ≤ longest_document) × ((ms : Members) → ¬ ReadsAs text ms)
-IsRefused text (BadEntry array index name) = ReadsSo text (λ ms. IsTreeFault ms (BadEntry array index name))
+IsRefused text (BadEntry array index name) = IsDocument text (λ ms. IsTreeFault ms (BadEntry array index name))

@@ -1,6 +1,7 @@
 -- What stands in the tree of a document.
-use Rattle.std.specs.Prelude.{ℕ, Bool, List, [], ◌∷◌, unwrap_or, option_and_then}
+use Rattle.std.specs.Prelude.{ℕ, ◌≡◌, ◌≤◌, Bool, List, [], ◌∷◌, Some, unwrap_or, option_and_then}
 use Rattle.std.specs.declared.option.Option.{Option}
+use Rattle.minor_version.specs.Release.{release_text}
 use Rattle.toml.specs.Data.{Data, Items, no_items, item, Members, no_members, member, get_member, as_str, as_bool, as_array, as_table}
 
 -- the text, or the boolean, that a member holds
@@ -9,6 +10,11 @@ text_at name ms = option_and_then as_str (get_member name ms)
 
 abbrev pub flag_at : List ℕ → Members → Option Bool
 flag_at name ms = option_and_then as_bool (get_member name ms)
+
+-- the member holds the text of this release
+pub record IsReleaseAt (name : List ℕ) (ms : Members) (k : ℕ) : Type 0 where
+  pub text : text_at name ms ≡ Some (release_text k)
+  pub bound : k ≤ 999
 
 -- the items of the array that a member holds, none where it holds no array
 abbrev pub items_at : List ℕ → Members → Items

@@ -8,6 +8,7 @@ mod apis;
 mod demand;
 mod fault;
 mod gates;
+mod laws;
 mod member;
 mod read;
 mod rows;
@@ -15,5 +16,6 @@ mod rows;
 mod tests;
 mod tree;
 
+pub use laws::reading_has_one_answer;
 pub use read::{HistoryFault, read_history};
 pub use schemas::Array;

@@ -43,7 +43,7 @@ pub enum HistoryFault {
 /// The release of a member that is missing or holds its text.
 fn optional_release(table: &Table, member: Member) -> Option<Minor>
     requires { IfSome (get_member (member_name member) (table_view table.now)) (HasShape TheShape.Release) }
-    ensures { HoldsRelease (table_view table.now) (member_name member) result }
+    ensures { HoldsRelease (member_name member) (table_view table.now) result }
 {
     match text_member(table, member) {
         Some(text) => parse_plain(text.as_bytes()),

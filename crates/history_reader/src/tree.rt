@@ -3,9 +3,8 @@ ghost use Rattle.std.specs.Prelude.{◌≡◌, Some, IsSome, IsSomeAnd, option_m
 ghost use Rattle.toml.specs.View.{view, table_view, items_view};
 ghost use Rattle.toml.specs.Data.{get_member, as_table};
 ghost use Rattle.schemas.specs.Arrays.{array_name};
-ghost use Rattle.minor_version.specs.Release.{release_text};
 ghost use Rattle.history_reader.specs.Names.{member_name};
-ghost use Rattle.history_reader.specs.Tree.{text_at, flag_at, items_at, members_in};
+ghost use Rattle.history_reader.specs.Tree.{IsReleaseAt, text_at, flag_at, items_at, members_in};
 ghost use Rattle.history_reader.specs.Demands.{IsRelease, IsStage};
 ghost use Rattle.gate_spec.specs.Stages.{stage_word};
 
@@ -77,7 +76,7 @@ pub fn flag_of(table: &Table, member: Member) -> bool
 /// The release of a member that holds its text.
 pub fn release_of(table: &Table, member: Member) -> Minor
     requires { IsSomeAnd (text_at (member_name member) (table_view table.now)) IsRelease }
-    ensures { text_at (member_name member) (table_view table.now) ≡ Some (release_text result) }
+    ensures { IsReleaseAt (member_name member) (table_view table.now) result }
 {
     parse_plain(text_of(table, member).as_bytes()).unwrap()
 }

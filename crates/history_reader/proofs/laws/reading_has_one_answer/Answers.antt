@@ -1,0 +1,5 @@
+use Rattle.history_reader.proofs.LawLemmas.{one_history, means_or_is_refused, one_fault}
+use Rattle.history_reader.proofs.laws.reading_has_one_answer.Goals as goal
+
+pub returns : goal.returns
+returns c = record { one_history = one_history; either = means_or_is_refused; one_fault = one_fault }
