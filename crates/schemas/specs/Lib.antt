@@ -2,3 +2,8 @@ pub mod Arrays
 pub mod Shapes
 pub mod Dated
 pub mod Fields
+pub mod Places
+pub mod GateRules
+pub mod ApiRules
+pub mod Rules
+pub mod AcceptedFields

@@ -1,0 +1,6 @@
+use Rattle.schemas.specs.ApiRules.{NamesItsKind}
+use Rattle.schemas.proofs.PlaceLemmas.{EachBelow}
+use Rattle.history_rules.proofs.api_rules.first_mixed_kind.Given as goal
+
+abbrev pub invariant-loop-i : goal.invariant-loop-i
+invariant-loop-i l = EachBelow NamesItsKind l.entries l.i

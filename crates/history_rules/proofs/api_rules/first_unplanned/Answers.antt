@@ -1,0 +1,16 @@
+use Rattle.std.proofs.Common.{rules, arith}
+use Rattle.schemas.specs.ApiRules.{KeepsPlan}
+use Rattle.schemas.proofs.PlaceLemmas.{each_more, each_whole, first_broken}
+use Rattle.history_rules.proofs.api_rules.first_unplanned.Goals as goal
+
+pub loop-i-init : goal.loop-i-init
+loop-i-init c = search rules
+
+pub returns-then-not-is_kept : goal.returns-then-not-is_kept
+returns-then-not-is_kept c = first_broken (KeepsPlan c.args.entries.now c.args.last) c.args.entries.now c.loop-i.i c.index-entries-i.result c.loop-i-test.true c.index-entries-i.is c.loop-i.invariant (search rules)
+
+pub loop-i-preserved : goal.loop-i-preserved
+loop-i-preserved c = each_more (KeepsPlan c.args.entries.now c.args.last) c.args.entries.now c.loop-i.i c.index-entries-i.result c.loop-i-test.true c.index-entries-i.is c.loop-i.invariant (search rules)
+
+pub returns : goal.returns
+returns c = each_whole (KeepsPlan c.args.entries.now c.args.last) c.args.entries.now c.loop-i.i (omega arith) c.loop-i.invariant

@@ -1,0 +1,384 @@
+//! The rules on versions of resources: for each, the number of the first entry that breaks it.
+ghost use Rattle.std.specs.Prelude.{◌≡◌, ◌↔◌, [], IsTrue, codes};
+ghost use Rattle.std.specs.Option.{option_copied};
+ghost use Rattle.lifecycle.specs.Entry.{IsIntroduced, IsRemoved};
+ghost use Rattle.lifecycle.specs.Stability.{rank_of};
+ghost use Rattle.schemas.specs.Places.{FindsFirst};
+ghost use Rattle.schemas.specs.ApiRules.{is_of_version, previous_of_version, name_of, notice_of, AgreeInKind, DifferInKind, KeepKindsApart, HasLawfulName, IsNext, StandsInOrder, NamesItsKind, IsFairBetween, IsFairDeprecation, IsFairChange, DeprecatesFairly, IsPlanned, IsKept, KeepsPlan, IsForgotten, IsInFavourOf, IsLateAfter, AreForgottenFirst, IsForgottenLate, ForgetsLate};
+ghost use Rattle.schemas.specs.Rules.{IsApiBy};
+
+use lifecycle::{ApiChange, ApiEntry, Level, version_word};
+use minor_version::{Minor, Text};
+
+/// For how many releases a removed version is still read.
+const MEMORY: u16 = 3;
+
+/// The first entry dated after the last release (HR2).
+pub fn first_late_api(last: Minor, entries: &[ApiEntry]) -> Option<u64>
+    ensures { FindsFirst (IsApiBy last) entries.now result }
+{
+    for (i, entry) in entries.iter().enumerate() {
+        if entry.since > last {
+            return Some(i as u64 + 1);
+        }
+    }
+    None
+}
+
+fn same_version(x: &ApiEntry, y: &ApiEntry) -> bool
+    ensures { result ≡ is_of_version x.now y.now }
+{
+    x.group == y.group && x.version == y.version && x.resource == y.resource
+}
+
+fn previous_of<'a>(earlier: &'a [ApiEntry], entry: &ApiEntry) -> Option<&'a ApiEntry>
+    ensures { option_copied result ≡ previous_of_version earlier.now entry.now }
+{
+    earlier.iter().rev().find(|y| same_version(entry, y))
+}
+
+fn is_next(previous: Option<&ApiEntry>, entry: &ApiEntry) -> bool
+    ensures { IsTrue result ↔ IsNext (option_copied previous.entry) entry.now.since entry.now.change }
+{
+    match (&entry.change, previous) {
+        (ApiChange::Introduced { .. }, None) => true,
+        (ApiChange::Introduced { .. }, Some(_)) => false,
+        (_, None) => false,
+        (ApiChange::Deprecated { .. }, Some(y)) => {
+            matches!(y.change, ApiChange::Introduced { .. }) && y.since < entry.since
+        }
+        (ApiChange::Removed, Some(y)) => {
+            matches!(y.change, ApiChange::Deprecated { .. }) && y.since <= entry.since
+        }
+        (ApiChange::Forgotten, Some(y)) => {
+            matches!(y.change, ApiChange::Removed) && y.since < entry.since
+        }
+    }
+}
+
+/// The first entry that isn't the next one of its version, in the order introduced, deprecated, removed, forgotten (HR6).
+pub fn first_out_of_order(entries: &[ApiEntry]) -> Option<u64>
+    ensures { FindsFirst StandsInOrder entries.now result }
+{
+    for (i, entry) in entries.iter().enumerate() {
+        if !is_next(previous_of(&entries[..i], entry), entry) {
+            return Some(i as u64 + 1);
+        }
+    }
+    None
+}
+
+fn agree_in_kind(x: &ApiChange, y: &ApiChange) -> bool
+    ensures { IsTrue result ↔ AgreeInKind x.now y.now }
+{
+    match (x, y) {
+        (
+            ApiChange::Introduced {
+                kind,
+                singular,
+                namespaced,
+                ..
+            },
+            ApiChange::Introduced {
+                kind: other_kind,
+                singular: other_singular,
+                namespaced: other_namespaced,
+                ..
+            },
+        ) => { kind == other_kind && singular == other_singular && namespaced == other_namespaced }
+        _ => true,
+    }
+}
+
+fn differ_in_kind(x: &ApiChange, y: &ApiChange) -> bool
+    ensures { IsTrue result ↔ DifferInKind x.now y.now }
+{
+    match (x, y) {
+        (
+            ApiChange::Introduced { kind, .. },
+            ApiChange::Introduced {
+                kind: other_kind,
+                ..
+            },
+        ) => kind != other_kind,
+        _ => true,
+    }
+}
+
+fn keep_kinds_apart(x: &ApiEntry, y: &ApiEntry) -> bool
+    ensures { IsTrue result ↔ KeepKindsApart x.now y.now }
+{
+    if x.group != y.group {
+        true
+    } else if x.resource == y.resource {
+        agree_in_kind(&x.change, &y.change)
+    } else {
+        differ_in_kind(&x.change, &y.change)
+    }
+}
+
+fn is_core(group: &Text) -> bool
+    ensures { IsTrue result ↔ (group.now ≡ []) }
+{
+    group.as_str().is_empty()
+}
+
+fn is_version_one(version: &Text) -> bool
+    ensures { IsTrue result ↔ (version.now ≡ codes "v1") }
+{
+    version.as_str() == "v1"
+}
+
+fn has_core_version(entry: &ApiEntry) -> bool
+    ensures { IsTrue result ↔ (entry.now.group ≡ [] → entry.now.version ≡ codes "v1") }
+{
+    if is_core(&entry.group) {
+        is_version_one(&entry.version)
+    } else {
+        true
+    }
+}
+
+fn has_lawful_name(entry: &ApiEntry) -> bool
+    ensures { IsTrue result ↔ HasLawfulName entry.now }
+{
+    entry.resource.as_str() != "namespaces" && has_core_version(entry)
+}
+
+fn names_its_kind(earlier: &[ApiEntry], entry: &ApiEntry) -> bool
+    ensures { IsTrue result ↔ NamesItsKind earlier.now entry.now }
+{
+    has_lawful_name(entry) && earlier.iter().all(|y| keep_kinds_apart(entry, y))
+}
+
+/// The first entry that mixes up the kinds of its group, or has a name that a path can't have (HR7).
+pub fn first_mixed_kind(entries: &[ApiEntry]) -> Option<u64>
+    ensures { FindsFirst NamesItsKind entries.now result }
+{
+    for (i, entry) in entries.iter().enumerate() {
+        if !names_its_kind(&entries[..i], entry) {
+            return Some(i as u64 + 1);
+        }
+    }
+    None
+}
+
+fn rank(level: Level) -> u8
+    ensures { result ≡ rank_of level }
+{
+    match level {
+        Level::Ga => 0,
+        Level::Beta(_) => 1,
+        Level::Alpha(_) => 2,
+    }
+}
+
+fn notice(level: Level) -> u16
+    ensures { result ≡ notice_of level }
+{
+    match level {
+        Level::Ga | Level::Beta(_) => 3,
+        Level::Alpha(_) => 0,
+    }
+}
+
+fn is_introduced(
+    entries: &[ApiEntry],
+    group: &Text,
+    version: &Text,
+    resource: &Text,
+    e: Minor,
+) -> bool
+    ensures { IsTrue result ↔ IsIntroduced entries.now (name_of group.now version.now resource.now) e }
+{
+    entries.iter().any(|y| {
+        y.group == *group
+            && y.version == *version
+            && y.resource == *resource
+            && y.since <= e
+            && matches!(y.change, ApiChange::Introduced { .. })
+    })
+}
+
+fn is_removed(entries: &[ApiEntry], group: &Text, version: &Text, resource: &Text, e: Minor) -> bool
+    ensures { IsTrue result ↔ IsRemoved entries.now (name_of group.now version.now resource.now) e }
+{
+    entries.iter().any(|y| {
+        y.group == *group
+            && y.version == *version
+            && y.resource == *resource
+            && y.since <= e
+            && matches!(y.change, ApiChange::Removed)
+    })
+}
+
+fn is_forgotten(
+    entries: &[ApiEntry],
+    group: &Text,
+    version: &Text,
+    resource: &Text,
+    e: Minor,
+) -> bool
+    ensures { IsTrue result ↔ IsForgotten entries.now (name_of group.now version.now resource.now) e }
+{
+    entries.iter().any(|y| {
+        y.group == *group
+            && y.version == *version
+            && y.resource == *resource
+            && y.since <= e
+            && matches!(y.change, ApiChange::Forgotten)
+    })
+}
+
+fn is_fair_between(
+    all: &[ApiEntry],
+    entry: &ApiEntry,
+    removal: Minor,
+    replacement: &Text,
+    own: Level,
+    other: Level,
+) -> bool
+    ensures { IsTrue result ↔ IsFairBetween all.now entry.now removal replacement.now own other }
+{
+    entry.since.number() + notice(own) <= removal.number()
+        && entry.version != *replacement
+        && rank(other) <= rank(own)
+        && is_introduced(all, &entry.group, replacement, &entry.resource, entry.since)
+}
+
+fn is_fair_deprecation(
+    all: &[ApiEntry],
+    entry: &ApiEntry,
+    removal: Minor,
+    replacement: &Text,
+) -> bool
+    ensures { IsTrue result ↔ IsFairDeprecation all.now entry.now removal replacement.now }
+{
+    let Some(own) = version_word(entry.version.bytes()) else {
+        return false;
+    };
+    let Some(other) = version_word(replacement.bytes()) else {
+        return false;
+    };
+    is_fair_between(all, entry, removal, replacement, own.level, other.level)
+}
+
+fn is_fair(all: &[ApiEntry], entry: &ApiEntry) -> bool
+    ensures { IsTrue result ↔ IsFairChange all.now entry.now entry.now.change }
+{
+    match &entry.change {
+        ApiChange::Deprecated {
+            removal,
+            replacement,
+        } => is_fair_deprecation(all, entry, *removal, replacement),
+        _ => true,
+    }
+}
+
+/// The first deprecation that leaves too little time, or whose replacement doesn't stand in for the version (HR8).
+pub fn first_unfair_deprecation(entries: &[ApiEntry]) -> Option<u64>
+    ensures { FindsFirst (DeprecatesFairly entries.now) entries.now result }
+{
+    for (i, entry) in entries.iter().enumerate() {
+        if !is_fair(entries, entry) {
+            return Some(i as u64 + 1);
+        }
+    }
+    None
+}
+
+fn is_planned(all: &[ApiEntry], entry: &ApiEntry, plan: &ApiChange) -> bool
+    ensures { IsTrue result ↔ IsPlanned all.now entry.now plan.now }
+{
+    match plan {
+        ApiChange::Deprecated {
+            removal,
+            replacement,
+        } => {
+            entry.since == *removal
+                && is_introduced(all, &entry.group, replacement, &entry.resource, entry.since)
+                && !is_removed(all, &entry.group, replacement, &entry.resource, entry.since)
+        }
+        _ => false,
+    }
+}
+
+fn is_kept(all: &[ApiEntry], last: Minor, previous: Option<&ApiEntry>, entry: &ApiEntry) -> bool
+    ensures { IsTrue result ↔ IsKept all.now last (option_copied previous.entry) entry.now entry.now.change }
+{
+    match &entry.change {
+        ApiChange::Deprecated { removal, .. } => {
+            *removal > last || is_removed(all, &entry.group, &entry.version, &entry.resource, last)
+        }
+        ApiChange::Removed => match previous {
+            None => false,
+            Some(y) => is_planned(all, entry, &y.change),
+        },
+        _ => true,
+    }
+}
+
+/// The first removal that isn't as planned, or deprecation whose planned removal is missing (HR9).
+pub fn first_unplanned(last: Minor, entries: &[ApiEntry]) -> Option<u64>
+    ensures { FindsFirst (KeepsPlan entries.now last) entries.now result }
+{
+    for (i, entry) in entries.iter().enumerate() {
+        if !is_kept(entries, last, previous_of(&entries[..i], entry), entry) {
+            return Some(i as u64 + 1);
+        }
+    }
+    None
+}
+
+fn is_in_favour_of(entry: &ApiEntry, y: &ApiEntry) -> bool
+    ensures { IsTrue result ↔ IsInFavourOf entry.now y.now y.now.change }
+{
+    match &y.change {
+        ApiChange::Deprecated { replacement, .. } => {
+            entry.group == y.group && entry.version == *replacement && entry.resource == y.resource
+        }
+        _ => false,
+    }
+}
+
+fn are_followers_forgotten(all: &[ApiEntry], entry: &ApiEntry) -> bool
+    ensures { IsTrue result ↔ AreForgottenFirst all.now entry.now }
+{
+    all.iter().all(|y| {
+        !is_in_favour_of(entry, y)
+            || is_forgotten(all, &y.group, &y.version, &y.resource, entry.since)
+    })
+}
+
+fn is_late(previous: Option<&ApiEntry>, entry: &ApiEntry) -> bool
+    ensures { IsTrue result ↔ IsLateAfter (option_copied previous.entry) entry.now.since }
+{
+    match previous {
+        None => false,
+        Some(y) => {
+            matches!(y.change, ApiChange::Removed)
+                && y.since.number() + MEMORY <= entry.since.number()
+        }
+    }
+}
+
+/// The first version that is forgotten too early (HR10).
+pub fn first_early_forgetting(entries: &[ApiEntry]) -> Option<u64>
+    ensures { FindsFirst (ForgetsLate entries.now) entries.now result }
+{
+    for (i, entry) in entries.iter().enumerate() {
+        if !forgets_late(entries, previous_of(&entries[..i], entry), entry) {
+            return Some(i as u64 + 1);
+        }
+    }
+    None
+}
+
+fn forgets_late(all: &[ApiEntry], previous: Option<&ApiEntry>, entry: &ApiEntry) -> bool
+    ensures { IsTrue result ↔ IsForgottenLate all.now (option_copied previous.entry) entry.now entry.now.change }
+{
+    match &entry.change {
+        ApiChange::Forgotten => is_late(previous, entry) && are_followers_forgotten(all, entry),
+        _ => true,
+    }
+}

@@ -1,0 +1,11 @@
+//! The rules that a release history keeps (after the Kubernetes deprecation policy), and the first fault of one that
+//! breaks them.
+#![tactic(auto)]
+
+mod accept;
+mod api_rules;
+mod fault;
+mod gate_rules;
+
+pub use accept::check;
+pub use fault::CheckFault;
