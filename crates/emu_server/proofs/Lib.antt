@@ -1,5 +1,3 @@
-pub mod EntryLemmas
-pub mod Names
 pub mod ListingLemmas
 pub mod PageLemmas
 pub mod FloatLemmas

@@ -1,15 +1,15 @@
 -- From what was taken of the source to the bytes that it held.
-use Rattle.std.proofs.Common.{◌≡◌, ℕ, ◌≤◌, ◌⊎◌, inl, inr, List, ◌++◌, length, Option, Some, None, ap, sym, ◌∙◌, subst, arith}
+use Rattle.std.proofs.Common.{◌≡◌, ℕ, ◌≤◌, inl, inr, List, ◌++◌, length, Option, Some, None, ap, sym, ◌∙◌, subst, arith}
 use Rattle.std.specs.Io.KnownBytes.{Keeps, Appends, Consumes, IsAtEnd}
 use Rattle.std.proofs.lemmas.List.{append-nil, length-append}
-use Rattle.emu_server.specs.declared.history.HistoryFault.{HistoryFault}
-use Rattle.emu_server.specs.declared.history.HistoryFault.TheVariants as fault
+use Rattle.history_reader.specs.declared.read.HistoryFault.{HistoryFault}
+use Rattle.history_reader.specs.declared.read.HistoryFault.TheVariants as fault
 use Rattle.emu_server.specs.declared.status.Status.{Status}
 use Rattle.emu_server.specs.declared.status.Status.TheVariants as status
 use Rattle.emu_server.specs.declared.words.Command.{Command}
-use Rattle.emu_server.specs.declared.words.Command.TheVariants.{Discover}
-use Rattle.emu_server.specs.Answer.{IsHistoryRefusal, IsAnswerTo, IsAnswer}
-use Rattle.emu_server.specs.Document.{IsRefused}
+use Rattle.emu_server.specs.declared.words.Command.TheVariants.{Discover, Check}
+use Rattle.emu_server.specs.Answer.{IsReadingRefusal, IsAnswerOnText, IsAnswerTo, IsAnswer}
+use Rattle.history_reader.specs.Meaning.{IsRefused}
 use Rattle.emu_server.specs.Lines.{read_fault_line}
 use Rattle.emu_server.specs.Run.{IsEnd}
 use Rattle.emu_server.specs.Words.{AsksFor}
@@ -26,27 +26,30 @@ held-known None v = tt
 held-known (Some xs) v = λ i. xs
 
 refusal_up : (v rest : List ℕ) (f : HistoryFault) → (length v ≤ 1048576 → v ≡ v ++ rest) → IsRefused v f → IsRefused (v ++ rest) f
-refusal_up v rest fault.Memory whole h = absurd h
+refusal_up v rest fault.Memory whole h = tt
 refusal_up v rest fault.TooLong whole h = omega (arith, length-append v rest)
 refusal_up v rest fault.NotToml whole h = subst (λ b. IsRefused b fault.NotToml) (whole h.0) h
-refusal_up v rest fault.NotAccepted whole h = subst (λ b. IsRefused b fault.NotAccepted) (whole h.0) h
+refusal_up v rest (fault.BadEntry a n m) whole h = subst (λ b. IsRefused b (fault.BadEntry a n m)) (whole h.short) h
 
-history_up : (v rest line : List ℕ) → (length v ≤ 1048576 → v ≡ v ++ rest) → IsHistoryRefusal v line → IsHistoryRefusal (v ++ rest) line
-history_up v rest line whole (inl h) = inl (h.0, refusal_up v rest h.0 whole h.1, h.2)
-history_up v rest line whole (inr h) = subst (λ b. IsHistoryRefusal b line) (whole h.1.0) (inr h)
+reading_up : (v rest line : List ℕ) → (length v ≤ 1048576 → v ≡ v ++ rest) → IsReadingRefusal v line → IsReadingRefusal (v ++ rest) line
+reading_up v rest line whole h = record { cause = h.cause; known = h.known; refused = refusal_up v rest h.cause whole h.refused; written = h.written }
+
+text_up : (c : Command) (v rest : List ℕ) (s : Status) (text : List ℕ) → (length v ≤ 1048576 → v ≡ v ++ rest) → IsAnswerOnText c v s text → IsAnswerOnText c (v ++ rest) s text
+text_up c v rest s text whole h = subst (λ b. IsAnswerOnText c b s text) (whole h.means.short) h
 
 answer_to_up : (c : Command) (v rest : List ℕ) (s : Status) (text : List ℕ) → (length v ≤ 1048576 → v ≡ v ++ rest) → IsAnswerTo c v s text → IsAnswerTo c (v ++ rest) s text
-answer_to_up c v rest status.History text whole h = history_up v rest text whole h
-answer_to_up c v rest status.Ok text whole h = subst (λ b. IsAnswerTo c b status.Ok text) (whole h.3.0.0) h
-answer_to_up c v rest status.Flags text whole h = subst (λ b. IsAnswerTo c b status.Flags text) (whole h.3.0.0) h
-answer_to_up c v rest status.Usage text whole h = subst (λ b. IsAnswerTo c b status.Usage text) (whole h.3.0.0) h
-answer_to_up c v rest status.Memory text whole h = subst (λ b. IsAnswerTo c b status.Memory text) (whole h.3.0.0) h
-answer_to_up c v rest status.ReadFault text whole h = subst (λ b. IsAnswerTo c b status.ReadFault text) (whole h.3.0.0) h
-answer_to_up c v rest status.WriteFault text whole h = subst (λ b. IsAnswerTo c b status.WriteFault text) (whole h.3.0.0) h
-answer_to_up c v rest status.DiskFault text whole h = subst (λ b. IsAnswerTo c b status.DiskFault text) (whole h.3.0.0) h
-answer_to_up c v rest status.FrontFault text whole h = subst (λ b. IsAnswerTo c b status.FrontFault text) (whole h.3.0.0) h
-answer_to_up c v rest status.Store text whole h = subst (λ b. IsAnswerTo c b status.Store text) (whole h.3.0.0) h
-answer_to_up c v rest status.Spent text whole h = subst (λ b. IsAnswerTo c b status.Spent text) (whole h.3.0.0) h
+answer_to_up c v rest status.History text whole (inl h) = inl (reading_up v rest text whole h)
+answer_to_up c v rest status.History text whole (inr h) = inr (text_up c v rest status.History text whole h)
+answer_to_up c v rest status.Ok text whole h = text_up c v rest status.Ok text whole h
+answer_to_up c v rest status.Flags text whole h = text_up c v rest status.Flags text whole h
+answer_to_up c v rest status.Usage text whole h = text_up c v rest status.Usage text whole h
+answer_to_up c v rest status.Memory text whole h = text_up c v rest status.Memory text whole h
+answer_to_up c v rest status.ReadFault text whole h = text_up c v rest status.ReadFault text whole h
+answer_to_up c v rest status.WriteFault text whole h = text_up c v rest status.WriteFault text whole h
+answer_to_up c v rest status.DiskFault text whole h = text_up c v rest status.DiskFault text whole h
+answer_to_up c v rest status.FrontFault text whole h = text_up c v rest status.FrontFault text whole h
+answer_to_up c v rest status.Store text whole h = text_up c v rest status.Store text whole h
+answer_to_up c v rest status.Spent text whole h = text_up c v rest status.Spent text whole h
 
 answer_held : (c : Command) (a b : Option (List ℕ)) (v : List ℕ) (s : Status) (text : List ℕ) → Consumes a b v → (length v ≤ 1048576 → IsAtEnd b) → IsAnswerTo c v s text → IsAnswerTo c (held a v) s text
 unfolding held
@@ -55,15 +58,27 @@ answer_held c (Some xs) None v s text taken end h = absurd taken
 answer_held c (Some xs) (Some ys) v s text taken end h =
     subst (λ bytes. IsAnswerTo c bytes s text) (sym taken) (answer_to_up c v ys s text (λ short. sym (ap (λ rest. v ++ rest) (end short) ∙ append-nil v)) h)
 
--- an accepted history has no work that ends in these ways
-idle : (c : Command) (bytes : List ℕ) (text : List ℕ) → IsAnswerTo c bytes status.Usage text ⊎ (IsAnswerTo c bytes status.Memory text ⊎ (IsAnswerTo c bytes status.ReadFault text ⊎ IsAnswerTo c bytes status.WriteFault text)) → ⊥
-idle (Discover e) bytes text (inl h) = h.4
-idle (Discover e) bytes text (inr (inl h)) = h.4
-idle (Discover e) bytes text (inr (inr (inl h))) = h.4
-idle (Discover e) bytes text (inr (inr (inr h))) = h.4
+-- the statuses with which no work ends
+abbrev IsIdle : Status → Type 0
+IsIdle status.Usage = Unit {0}
+IsIdle status.Memory = Unit {0}
+IsIdle status.ReadFault = Unit {0}
+IsIdle status.WriteFault = Unit {0}
+IsIdle _ = ⊥
+
+idle : (c : Command) (bytes : List ℕ) (s : Status) (text : List ℕ) → IsIdle s → IsAnswerTo c bytes s text → ⊥
+idle (Discover o) bytes status.Usage text i h = h.answer.1
+idle (Discover o) bytes status.Memory text i h = h.answer.1
+idle (Discover o) bytes status.ReadFault text i h = h.answer.1
+idle (Discover o) bytes status.WriteFault text i h = h.answer.1
+idle Check bytes status.Usage text i h = h.answer.1
+idle Check bytes status.Memory text i h = h.answer.1
+idle Check bytes status.ReadFault text i h = h.answer.1
+idle Check bytes status.WriteFault text i h = h.answer.1
+idle c bytes _ text i h = absurd i
 
 answer_from : (words : List (List ℕ)) (bytes : List ℕ) (c : Command) (s : Status) (text : List ℕ) → AsksFor words c → IsAnswerTo c bytes s text → IsAnswer words bytes s text
-answer_from words bytes c status.Usage text asks h = absurd (idle c bytes text (inl h))
+answer_from words bytes c status.Usage text asks h = absurd (idle c bytes status.Usage text tt h)
 answer_from words bytes c status.Ok text asks h = (c, asks, h)
 answer_from words bytes c status.Memory text asks h = (c, asks, h)
 answer_from words bytes c status.ReadFault text asks h = (c, asks, h)
@@ -78,9 +93,9 @@ answer_from words bytes c status.Spent text asks h = (c, asks, h)
 whole_end : (words : List (List ℕ)) (bytes : List ℕ) (s : Status) (old new : Option (List ℕ)) (text : List ℕ) → IsAnswer words bytes s text → Appends old new text → IsEnd words bytes s old new
 whole_end words bytes status.Usage old new text h written = (text, h, written)
 whole_end words bytes status.Ok old new text h written = (text, h, written)
-whole_end words bytes status.Memory old new text h written = absurd (idle h.0 bytes text (inr (inl h.2)))
-whole_end words bytes status.ReadFault old new text h written = absurd (idle h.0 bytes text (inr (inr (inl h.2))))
-whole_end words bytes status.WriteFault old new text h written = absurd (idle h.0 bytes text (inr (inr (inr h.2))))
+whole_end words bytes status.Memory old new text h written = absurd (idle h.0 bytes status.Memory text tt h.2)
+whole_end words bytes status.ReadFault old new text h written = absurd (idle h.0 bytes status.ReadFault text tt h.2)
+whole_end words bytes status.WriteFault old new text h written = absurd (idle h.0 bytes status.WriteFault text tt h.2)
 whole_end words bytes status.DiskFault old new text h written = (text, h, written)
 whole_end words bytes status.FrontFault old new text h written = (text, h, written)
 whole_end words bytes status.History old new text h written = (text, h, written)

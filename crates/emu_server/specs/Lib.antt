@@ -1,6 +1,4 @@
 pub mod Outside
-pub mod Document
-pub mod Parts
 pub mod Listing
 pub mod Page
 pub mod Trees

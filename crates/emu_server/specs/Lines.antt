@@ -1,9 +1,13 @@
--- The lines with which the program refuses.
-use Rattle.std.specs.Prelude.{ℕ, List, ◌++◌, codes}
+-- The lines that the program writes.
+use Rattle.std.specs.Prelude.{ℕ, List, ◌++◌, length, codes, decimal}
 use Rattle.minor_version.specs.Release.{release_text}
 use Rattle.minor_version.specs.Ranges.{floor_of}
-use Rattle.emu_server.specs.declared.history.HistoryFault.{HistoryFault}
-use Rattle.emu_server.specs.declared.history.HistoryFault.TheVariants as fault
+use Rattle.schemas.specs.Arrays.{array_name}
+use Rattle.schemas.specs.Dated.{Dated}
+use Rattle.schemas.specs.Rules.{first_of, last_of}
+use Rattle.schemas.specs.declared.array.Array.{Array}
+use Rattle.history_reader.specs.declared.read.HistoryFault.{HistoryFault}
+use Rattle.history_reader.specs.declared.read.HistoryFault.TheVariants as fault
 use Rattle.emu_server.specs.declared.emulated.VersionFault.{VersionFault}
 use Rattle.emu_server.specs.declared.emulated.VersionFault.TheVariants.{NotAVersion, OutOfRange}
 
@@ -13,17 +17,27 @@ usage_line = codes "usage: kube_emu <command> [options]\n"
 abbrev pub read_fault_line : List ℕ
 read_fault_line = codes "read fault\n"
 
-abbrev pub history_line : HistoryFault → List ℕ
-history_line fault.Memory = codes ""
-history_line fault.TooLong = codes "history: too long\n"
-history_line fault.NotToml = codes "history: not TOML\n"
-history_line fault.NotAccepted = codes "history: not accepted\n"
+-- a member of a history document isn't as it must be
+abbrev pub entry_line : Array → ℕ → List ℕ → List ℕ
+entry_line array index name = codes "history: entry " ++ (array_name array ++ (codes " " ++ (decimal index ++ (codes " member " ++ (name ++ codes "\n")))))
 
--- the first rule, that there is a first and a last release and the first isn't above the last
-abbrev pub first_rule_line : List ℕ
-first_rule_line = codes "history: rule HR1 at top 0\n"
+-- why bytes are no history document
+abbrev pub reading_line : HistoryFault → List ℕ
+reading_line fault.Memory = codes ""
+reading_line fault.TooLong = codes "history: too long\n"
+reading_line fault.NotToml = codes "history: not TOML\n"
+reading_line (fault.BadEntry array index name) = entry_line array index name
 
--- of a history from first to last
+-- a history breaks a rule at an entry
+abbrev pub rule_line : ℕ → Array → ℕ → List ℕ
+rule_line rule array number = codes "history: rule HR" ++ (decimal rule ++ (codes " at " ++ (array_name array ++ (codes " " ++ (decimal number ++ codes "\n")))))
+
+-- how many entries an accepted history has
+abbrev pub accepted_line : Dated → List ℕ
+accepted_line h = codes "accepted " ++ (release_text (first_of h) ++ (codes " to " ++ (release_text (last_of h) ++ (codes ": " ++ (decimal (length h.gates)
+    ++ (codes " gate, " ++ (decimal (length h.apis) ++ codes " api, 0 field, 0 spell entries\n")))))))
+
+-- why the release to emulate is refused, for a history from first to last
 abbrev pub version_line : ℕ → ℕ → VersionFault → List ℕ
 version_line first last NotAVersion = codes "emulated-version: not a version\n"
 version_line first last OutOfRange = codes "emulated-version: out of range " ++ (release_text (floor_of first last) ++ (codes " to " ++ (release_text last ++ codes "\n")))

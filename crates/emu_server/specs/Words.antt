@@ -3,7 +3,7 @@ use Rattle.std.specs.Prelude.{ℕ, ◌≡◌, List, [], ◌∷◌, ◌++◌, map
 use Rattle.std.specs.Borrow.{Bor}
 use Rattle.std.specs.declared.option.Option.{Option}
 use Rattle.emu_server.specs.declared.words.Command.{Command}
-use Rattle.emu_server.specs.declared.words.Command.TheVariants.{Discover}
+use Rattle.emu_server.specs.declared.words.Command.TheVariants.{Discover, Check}
 use Rattle.std.specs.Prelude.{option_map}
 
 -- the texts of the words
@@ -19,6 +19,10 @@ abbrev pub given : List ℕ → Option (List ℕ) → List (List ℕ)
 given name None = []
 given name (Some value) = (name ++ value) ∷ []
 
+abbrev pub text_of : Option (Bor (List ℕ)) → Option (List ℕ)
+text_of = option_map (λ t. t.now)
+
 -- the words ask for this command
 abbrev pub AsksFor : List (List ℕ) → Command → Type 0
-AsksFor words (Discover emulated) = words ≡ codes "discover" ∷ given emulated_version (option_map (λ t. t.now) emulated)
+AsksFor words (Discover emulated) = words ≡ codes "discover" ∷ given emulated_version (text_of emulated)
+AsksFor words Check = words ≡ codes "check" ∷ []

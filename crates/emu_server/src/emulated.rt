@@ -1,9 +1,11 @@
 //! The release that a command emulates.
 ghost use Rattle.std.specs.Prelude.{◌↔◌, IsTrue, IfOk, IfErr, option_map};
 ghost use Rattle.minor_version.specs.Ranges.{IsEmulable};
+ghost use Rattle.schemas.specs.Rules.{first_of, last_of};
 ghost use Rattle.emu_server.specs.Emulated.{IsEmulated, IsRefusedVersion};
 
-use minor_version::{Minor, floor, parse};
+use minor_version::{Minor, parse};
+use schemas::Accepted;
 
 /// Why the text of a version option is refused.
 #[derive(Clone, Copy, Debug, PartialEq, Eq)]
@@ -12,28 +14,24 @@ pub enum VersionFault {
     OutOfRange,
 }
 
-fn is_emulable(first: Minor, last: Minor, e: Minor) -> bool
-    ensures { IsTrue result ↔ IsEmulable first last e }
+fn is_emulable(accepted: &Accepted, e: Minor) -> bool
+    ensures { IsTrue result ↔ IsEmulable (first_of accepted.now) (last_of accepted.now) e }
 {
-    floor(first, last) <= e && e <= last
+    accepted.floor() <= e && e <= accepted.last()
 }
 
-/// The release that the option names, or the last one, where the history goes from `first` to `last`.
-pub fn emulated_release(
-    emulated: Option<&str>,
-    first: Minor,
-    last: Minor,
-) -> Result<Minor, VersionFault>
-    ensures ok { IfOk result (IsEmulated first last (option_map (λ t. t.now) emulated.entry)) }
-    ensures refused { IfErr result (IsRefusedVersion first last (option_map (λ t. t.now) emulated.entry)) }
+/// The release that the option names, or the last one.
+pub fn emulated_release(emulated: Option<&str>, accepted: &Accepted) -> Result<Minor, VersionFault>
+    ensures ok { IfOk result (IsEmulated (first_of accepted.now) (last_of accepted.now) (option_map (λ t. t.now) emulated.entry)) }
+    ensures refused { IfErr result (IsRefusedVersion (first_of accepted.now) (last_of accepted.now) (option_map (λ t. t.now) emulated.entry)) }
 {
     let Some(text) = emulated else {
-        return Ok(last);
+        return Ok(accepted.last());
     };
     let Ok(e) = parse(text.as_bytes()) else {
         return Err(VersionFault::NotAVersion);
     };
-    if is_emulable(first, last, e) {
+    if is_emulable(accepted, e) {
         Ok(e)
     } else {
         Err(VersionFault::OutOfRange)

@@ -5,7 +5,7 @@ mod answer;
 mod discovery;
 mod edges;
 mod emulated;
-mod history;
+mod lines;
 mod run;
 mod status;
 mod taking;

@@ -5,8 +5,10 @@ ghost use Rattle.basis.specs.Counts.{Rose};
 ghost use Rattle.emu_server.specs.Run.{TakesAtMost};
 
 use crate::edges::outside::Source;
-use crate::history::LONGEST_HISTORY;
 use std::alloc::Global;
+
+/// The greatest length of a history document, in bytes.
+const LONGEST_HISTORY: usize = 1_048_576;
 
 /// How many bytes are asked for at once.
 const PIECE: usize = 4096;

@@ -1,6 +1,8 @@
 //! The words of the command line.
 ghost use Rattle.std.specs.Prelude.{◌≡◌, ◌≢◌, ◌++◌, ℕ, List, IfSome, IfNone};
-ghost use Rattle.emu_server.specs.Words.{AsksFor, texts_of};
+ghost use Rattle.std.specs.declared.option.Option.{Option as TheOption};
+ghost use Rattle.std.specs.Borrow.{Bor as TheBor};
+ghost use Rattle.emu_server.specs.Words.{AsksFor, texts_of, text_of, given, emulated_version};
 ghost use Rattle.emu_server.specs.declared.words.Command.{Command as TheCommand};
 
 /// What the words ask for.
@@ -8,6 +10,8 @@ ghost use Rattle.emu_server.specs.declared.words.Command.{Command as TheCommand}
 pub enum Command<'a> {
     /// The group list of a release.
     Discover { emulated: Option<&'a str> },
+    /// Whether the history is accepted.
+    Check,
 }
 
 /// The value of an option, if the word gives it: all that stands behind `--name=`.
@@ -18,21 +22,45 @@ fn value_of<'a>(word: &'a str, name: &str) -> Option<&'a str>
     word.strip_prefix(name)
 }
 
+/// The value of the one option that the words may give.
+fn one_option<'a>(words: &[&'a str], name: &str) -> Option<Option<&'a str>>
+    ensures some { IfSome result (λ o. texts_of words.now ≡ given name.now (text_of o)) }
+    ensures none { IfNone result ((o : TheOption (List ℕ)) → texts_of words.now ≢ given name.now o) }
+{
+    if words.is_empty() {
+        return Some(None);
+    }
+    if words.len() > 1 {
+        return None;
+    }
+    match value_of(words[0], name) {
+        Some(value) => Some(Some(value)),
+        None => None,
+    }
+}
+
+fn discover<'a>(options: &[&'a str]) -> Option<Command<'a>>
+    ensures some { IfSome result (λ c. (o : TheOption (TheBor (List ℕ))) × (c ≡ Command.Discover o) × (texts_of options.now ≡ given emulated_version (text_of o))) }
+    ensures none { IfNone result ((o : TheOption (List ℕ)) → texts_of options.now ≢ given emulated_version o) }
+{
+    match one_option(options, "--emulated-version=") {
+        Some(emulated) => Some(Command::Discover { emulated }),
+        None => None,
+    }
+}
+
 /// The command that the words ask for.
 pub fn read_words<'a>(words: &[&'a str]) -> Option<Command<'a>>
     ensures some { IfSome result (AsksFor (texts_of words.now)) }
     ensures none { IfNone result ((c : TheCommand) → AsksFor (texts_of words.now) c → ⊥) }
 {
-    if words.is_empty() || words[0] != "discover" || words.len() > 2 {
+    if words.is_empty() {
         return None;
     }
-    if words.len() == 1 {
-        return Some(Command::Discover { emulated: None });
-    }
-    match value_of(words[1], "--emulated-version=") {
-        Some(emulated) => Some(Command::Discover {
-            emulated: Some(emulated),
-        }),
-        None => None,
+    let (_, options) = words.split_at(1);
+    match words[0] {
+        "discover" => discover(options),
+        "check" if options.is_empty() => Some(Command::Check),
+        _ => None,
     }
 }

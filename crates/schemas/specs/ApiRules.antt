@@ -1,7 +1,7 @@
 -- The rules on versions of resources, one entry at a time (after the Kubernetes deprecation policy).
 use Rattle.std.specs.Prelude.{ℕ, ◌≡◌, ◌≢◌, ◌+◌, ◌<◌, ◌≤◌, ◌&&◌, List, [], Bool, Option, IsNone, IsSomeAnd, All, Any, codes}
 use Rattle.std.specs.Str.{bytes_eq}
-use Rattle.lifecycle.specs.Entry.{IsIntroduction, IsRemoval, IsKnownOf, IsIntroduced, IsRemoved, IsLive}
+use Rattle.lifecycle.specs.Entry.{GroupVersionResource, IsIntroduction, IsRemoval, IsKnownOf, IsIntroduced, IsRemoved, IsLive}
 use Rattle.lifecycle.specs.Stability.{rank_of}
 use Rattle.lifecycle.specs.Version.{IsWord, word_text}
 use Rattle.lifecycle.specs.declared.version.Level.{Level}
@@ -10,7 +10,6 @@ use Rattle.lifecycle.specs.declared.version.VersionWord.{VersionWord}
 use Rattle.lifecycle.specs.declared.entry.ApiChange.{ApiChange}
 use Rattle.lifecycle.specs.declared.entry.ApiChange.TheVariants.{Introduced, Deprecated, Removed, Forgotten}
 use Rattle.lifecycle.specs.declared.entry.ApiEntry.{ApiEntry}
-use Rattle.lifecycle.specs.declared.entry.ApiName.{ApiName}
 use Rattle.schemas.specs.Places.{last_passing}
 
 -- y is an entry of the version of x
@@ -22,12 +21,8 @@ abbrev pub previous_of_version : List ApiEntry → ApiEntry → Option ApiEntry
 previous_of_version earlier x = last_passing (is_of_version x) earlier
 
 -- the version with this name
-abbrev pub name_of : List ℕ → List ℕ → List ℕ → ApiName
-name_of group version resource = record {
-  group = record { ref_ptr = (0, 0); now = group };
-  version = record { ref_ptr = (0, 0); now = version };
-  resource = record { ref_ptr = (0, 0); now = resource };
-}
+abbrev pub name_of : List ℕ → List ℕ → List ℕ → GroupVersionResource
+name_of group version resource = record { group = group; version = version; resource = resource }
 
 abbrev pub IsDeprecation : ApiChange → Type 0
 IsDeprecation (Deprecated removal replacement) = Unit {0}
@@ -38,7 +33,7 @@ IsForgetting Forgotten = Unit {0}
 IsForgetting _ = ⊥
 
 -- a forgetting of the version is dated at or before the release
-abbrev pub IsForgotten : List ApiEntry → ApiName → ℕ → Type 0
+abbrev pub IsForgotten : List ApiEntry → GroupVersionResource → ℕ → Type 0
 IsForgotten entries name e = Any (λ x. IsKnownOf name e x × IsForgetting x.change) entries
 
 -- a change of a version, with its date, behind the version's previous entry

@@ -1,0 +1,109 @@
+//! The lines that the program writes.
+ghost use Rattle.std.specs.Prelude.{◌≡◌, ◌++◌, IfOk, string_bytes, codes, decimal, length};
+ghost use Rattle.schemas.specs.Arrays.{array_name};
+ghost use Rattle.schemas.specs.Rules.{first_of, last_of};
+ghost use Rattle.emu_server.specs.Lines.{entry_line, reading_line, rule_line, accepted_line, version_line};
+
+use crate::emulated::VersionFault;
+use basis::Memory;
+use history_reader::HistoryFault;
+use schemas::{Accepted, Array};
+use std::alloc::{AllocError, Global};
+
+/// Why the bytes of a history are refused.
+pub fn reading_refusal(alloc: Global, fault: &HistoryFault) -> Result<String, AllocError>
+    ensures { IfOk result (λ s. string_bytes s ≡ reading_line fault.now) }
+{
+    match fault {
+        HistoryFault::Memory => String::from_str(alloc, ""),
+        HistoryFault::TooLong => String::from_str(alloc, "history: too long\n"),
+        HistoryFault::NotToml => String::from_str(alloc, "history: not TOML\n"),
+        HistoryFault::BadEntry {
+            array,
+            index,
+            member,
+        } => entry_refusal(alloc, *array, *index, member.as_str()),
+    }
+}
+
+fn entry_refusal(
+    alloc: Global,
+    array: Array,
+    index: u64,
+    member: &str,
+) -> Result<String, AllocError>
+    ensures { IfOk result (λ s. string_bytes s ≡ entry_line array index member.now) }
+{
+    let array = array.name();
+    format!(in alloc; "history: entry {array} {index} member {member}\n")
+}
+
+/// Which rule a history breaks, and where.
+pub fn rule_refusal(
+    alloc: Global,
+    rule: u8,
+    array: Array,
+    number: u64,
+) -> Result<String, AllocError>
+    ensures { IfOk result (λ s. string_bytes s ≡ rule_line rule array number) }
+{
+    let array = array.name();
+    format!(in alloc; "history: rule HR{rule} at {array} {number}\n")
+}
+
+fn counts(
+    alloc: Global,
+    first: &str,
+    last: &str,
+    gates: usize,
+    apis: usize,
+) -> Result<String, AllocError>
+    ensures { IfOk result (λ s. string_bytes s ≡ codes "accepted " ++ (first.now ++ (codes " to " ++ (last.now ++ (codes ": " ++ (decimal gates ++ (codes " gate, " ++ (decimal apis ++ codes " api, 0 field, 0 spell entries\n")))))))) }
+{
+    format!(in alloc;
+        "accepted {first} to {last}: {gates} gate, {apis} api, 0 field, 0 spell entries\n"
+    )
+}
+
+/// How many entries an accepted history has.
+pub fn acceptance(alloc: Global, accepted: &Accepted) -> Result<String, Memory>
+    ensures { IfOk result (λ s. string_bytes s ≡ accepted_line accepted.now) }
+{
+    let first = accepted.first().text(alloc)?;
+    let last = accepted.last().text(alloc)?;
+    let history = accepted.history();
+    let gates = history.gates.items().len();
+    let apis = history.apis.items().len();
+    match counts(alloc, first.as_str(), last.as_str(), gates, apis) {
+        Ok(text) => Ok(text),
+        Err(_) => Err(Memory),
+    }
+}
+
+fn out_of_range(alloc: Global, low: &str, high: &str) -> Result<String, AllocError>
+    ensures { IfOk result (λ s. string_bytes s ≡ codes "emulated-version: out of range " ++ (low.now ++ (codes " to " ++ (high.now ++ codes "\n")))) }
+{
+    format!(in alloc; "emulated-version: out of range {low} to {high}\n")
+}
+
+/// Why the release to emulate is refused, where the lowest that may be emulated is `floor`.
+pub fn version_refusal(
+    alloc: Global,
+    accepted: &Accepted,
+    fault: VersionFault,
+) -> Result<String, Memory>
+    ensures { IfOk result (λ s. string_bytes s ≡ version_line (first_of accepted.now) (last_of accepted.now) fault) }
+{
+    let made = match fault {
+        VersionFault::NotAVersion => String::from_str(alloc, "emulated-version: not a version\n"),
+        VersionFault::OutOfRange => {
+            let low = accepted.floor().text(alloc)?;
+            let high = accepted.last().text(alloc)?;
+            out_of_range(alloc, low.as_str(), high.as_str())
+        }
+    };
+    match made {
+        Ok(text) => Ok(text),
+        Err(_) => Err(Memory),
+    }
+}
