@@ -6,6 +6,8 @@ mod count;
 mod memory;
 mod names;
 mod sequence;
+#[cfg(test)]
+mod tests;
 
 pub use count::raised;
 pub use memory::Memory;

@@ -2,6 +2,8 @@
 #![tactic(auto)]
 
 mod entry;
+#[cfg(test)]
+mod tests;
 mod version;
 
 pub use entry::{ApiChange, ApiEntry, ApiName, is_removed, live_at};

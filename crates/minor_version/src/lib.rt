@@ -4,6 +4,8 @@
 mod blob;
 mod decimal;
 mod minor;
+#[cfg(test)]
+mod tests;
 mod text;
 
 pub use basis::Memory;
