@@ -2,7 +2,11 @@
 #![tactic(auto)]
 
 mod entry;
+mod in_force;
 mod stage;
+#[cfg(test)]
+mod tests;
 
 pub use entry::{GateChange, GateEntry, SpecAt, Stage};
+pub use in_force::{rises_in_date, spec_at};
 pub use stage::stage_named;

@@ -1,5 +1,5 @@
 -- A text has one answer.
-use Rattle.std.proofs.Common.{◌≡◌, ◌≢◌, ℕ, suc, ◌+◌, ◌<◌, ◌≤◌, Bool, true, false, List, [], ◌∷◌, ◌++◌, length, get_or, drop, decimal, codes, Option, Some, None, MatchOption, unwrap_or, refl, sym, ap, subst, ◌∙◌, arith}
+use Rattle.std.proofs.Common.{◌≡◌, ◌≢◌, ℕ, ◌≤◌, Bool, true, List, [], ◌∷◌, ◌++◌, length, get_or, drop, codes, Option, Some, None, refl, sym, ap, subst, ◌∙◌, arith}
 use Rattle.std.specs.List.{AllByRecursion}
 use Rattle.std.proofs.lemmas.Fmt.{decimal_injective}
 use Rattle.toml.specs.Data.{Members}
@@ -19,7 +19,7 @@ use Rattle.history_reader.specs.declared.read.HistoryFault.{HistoryFault}
 use Rattle.history_reader.specs.declared.read.HistoryFault.TheVariants.{Memory, TooLong, NotToml, BadEntry}
 use Rattle.history_reader.specs.Tree.{IsReleaseAt}
 use Rattle.history_reader.specs.Tests.{Place, Test, Passes, IsFirstFault, document_tests}
-use Rattle.history_reader.specs.Meaning.{IsGateChange, IsGateEntry, IsApiChange, IsApiEntry, AreEntries, HoldsRelease, IsHistory, ReadsAs, MeansTree, IsTreeFault, IsDocument, MeansHistory, IsRefused}
+use Rattle.history_reader.specs.Meaning.{IsGateChange, IsGateEntry, IsApiChange, IsApiEntry, AreEntries, HoldsRelease, IsHistory, ReadsAs, MeansTree, IsTreeFault, MeansHistory, IsRefused}
 
 some_injective : {A : Type 0} (o : Option A) (x y : A) → o ≡ Some x → o ≡ Some y → x ≡ y
 some_injective o x y a b = cc

@@ -6,5 +6,4 @@ pub fn reading_has_one_answer()
     ensures one_history { MeansOneHistory }
     ensures either { MeansOrIsRefused }
     ensures one_fault { HasOneFault }
-{
-}
+{}

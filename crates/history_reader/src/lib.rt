@@ -1,11 +1,12 @@
 //! A release history from its document (TOML v1.0.0), or the first fault of the document and its place.
 //!
 //! What a document may hold is the member table: `rows` has the rows of each table, `demand` what a row can demand,
-//! and `fault` goes over them in order. `gates` and `apis` make entries of tables in which no fault was found.
+//! and `fault` goes over them in order. `entries` makes entries of tables in which no fault was found, by `gates` and `apis`.
 #![tactic(auto)]
 
 mod apis;
 mod demand;
+mod entries;
 mod fault;
 mod gates;
 mod laws;

@@ -1,5 +1,5 @@
 //! A history from the bytes of a document.
-ghost use Rattle.std.specs.Prelude.{◌≡◌, IfOk, IfErr, IfSome};
+ghost use Rattle.std.specs.Prelude.{IfOk, IfErr, IfSome};
 ghost use Rattle.std.specs.List.{AllByRecursion};
 ghost use Rattle.toml.specs.View.{table_view};
 ghost use Rattle.toml.specs.Data.{get_member};
@@ -9,15 +9,18 @@ ghost use Rattle.history_reader.specs.Demands.{HasShape};
 ghost use Rattle.history_reader.specs.Tests.{Passes, document_tests};
 ghost use Rattle.history_reader.specs.Meaning.{HoldsRelease, IsHistory, MeansTree, IsTreeFault, MeansHistory, IsRefused};
 
-use crate::apis::api_entries;
+use crate::entries::entries_of;
 use crate::fault::document_fault;
-use crate::gates::gate_entries;
 use crate::member::Member;
 use crate::tree::{items_of_array, text_member};
 use basis::Memory;
+use gate_spec::GateEntry;
+use lifecycle::ApiEntry;
 use minor_version::{Minor, Text, parse_plain};
 use schemas::{Array, History};
 use std::alloc::Global;
+use std::error::Error;
+use std::fmt;
 use toml::Table;
 
 /// The greatest length of a history document, in bytes.
@@ -40,6 +43,27 @@ pub enum HistoryFault {
     },
 }
 
+impl fmt::Display for HistoryFault {
+    fn fmt<W: fmt::Write>(&self, f: &mut fmt::Formatter<W>) -> fmt::Result {
+        match self {
+            HistoryFault::Memory => f.write_str("out of memory"),
+            HistoryFault::TooLong => f.write_str("too long"),
+            HistoryFault::NotToml => f.write_str("not TOML"),
+            HistoryFault::BadEntry {
+                array,
+                index,
+                member,
+            } => {
+                let array = array.name();
+                let member = member.as_str();
+                write!(f, "entry {array} {index} member {member}")
+            }
+        }
+    }
+}
+
+impl Error for HistoryFault {}
+
 /// The release of a member that is missing or holds its text.
 fn optional_release(table: &Table, member: Member) -> Option<Minor>
     requires { IfSome (get_member (member_name member) (table_view table.now)) (HasShape TheShape.Release) }
@@ -58,8 +82,8 @@ fn history_of(alloc: Global, table: &Table) -> Result<History, Memory>
 {
     let first = optional_release(table, Member::First);
     let last = optional_release(table, Member::Last);
-    let gates = gate_entries(alloc, items_of_array(table, Array::Gate))?;
-    let apis = api_entries(alloc, items_of_array(table, Array::Api))?;
+    let gates = entries_of::<GateEntry>(alloc, items_of_array(table, Array::Gate))?;
+    let apis = entries_of::<ApiEntry>(alloc, items_of_array(table, Array::Api))?;
     Ok(History {
         first,
         last,

@@ -1,25 +1,14 @@
-use crate::{HistoryFault, read_history};
+use crate::read_history;
 use gate_spec::{GateChange, Stage};
 use lifecycle::ApiChange;
 use std::alloc::Global;
 use std::test::Fail;
 
-/// What the reader answers: `read`, the kind of fault, or the place of a bad member.
+/// What the reader answers: `read`, or the refusal as it is printed.
 fn answer(alloc: Global, text: &[u8]) -> Result<String, Fail> {
     match read_history(alloc, text) {
         Ok(_) => Ok(String::from_str(alloc, "read")?),
-        Err(HistoryFault::Memory) => Ok(String::from_str(alloc, "memory")?),
-        Err(HistoryFault::TooLong) => Ok(String::from_str(alloc, "too long")?),
-        Err(HistoryFault::NotToml) => Ok(String::from_str(alloc, "not TOML")?),
-        Err(HistoryFault::BadEntry {
-            array,
-            index,
-            member,
-        }) => {
-            let array = array.name();
-            let member = member.as_str();
-            Ok(format!(in alloc; "{array} {index} {member}")?)
-        }
+        Err(fault) => Ok(format!(in alloc; "{fault}")?),
     }
 }
 
@@ -74,14 +63,39 @@ fn reads_a_document(rt: HostRuntime) -> Result<(), Fail> {
     assert_eq!(rt; gates.len(), 3);
     assert_eq!(rt; gates[0].name.as_str(), "WidgetColor");
     assert_eq!(rt; gates[1].since.number(), 30);
-    assert_eq!(rt; gates[0].change, GateChange::Spec { stage: Stage::Alpha, default: false, locked: false });
-    assert_eq!(rt; gates[1].change, GateChange::Spec { stage: Stage::Ga, default: true, locked: true });
+    assert_eq!(rt;
+        gates[0].change,
+        GateChange::Spec {
+            stage: Stage::Alpha,
+            default: false,
+            locked: false
+        }
+    );
+    assert_eq!(rt;
+        gates[1].change,
+        GateChange::Spec {
+            stage: Stage::Ga,
+            default: true,
+            locked: true
+        }
+    );
     assert_eq!(rt; gates[2].change, GateChange::Gone);
     let apis = history.apis.items();
     assert_eq!(rt; apis.len(), 4);
     assert_eq!(rt; apis[0].group.as_str(), "demo.example");
-    assert!(rt; matches!(&apis[0].change, ApiChange::Introduced { namespaced: true, enabled: false, .. }));
-    assert!(rt; matches!(&apis[1].change, ApiChange::Deprecated { removal, .. } if removal.number() == 33));
+    assert!(rt;
+        matches!(
+            &apis[0].change,
+            ApiChange::Introduced {
+                namespaced: true,
+                enabled: false,
+                ..
+            }
+        )
+    );
+    assert!(rt;
+        matches!(&apis[1].change, ApiChange::Deprecated { removal, .. } if removal.number() == 33)
+    );
     assert!(rt; matches!(&apis[2].change, ApiChange::Removed));
     assert!(rt; matches!(&apis[3].change, ApiChange::Forgotten));
     Ok(())
@@ -93,18 +107,33 @@ fn names_the_first_fault(rt: HostRuntime) -> Result<(), Fail> {
         ("", "read"),
         ("gate = []\napi = []", "read"),
         ("a = = 1", "not TOML"),
-        ("last = \"1.33\"\nfirst = \"v1.28\"", "top 0 first"),
-        ("first = 1.28", "top 0 first"),
-        ("last = \"kube=1.33\"\ngate = {}", "top 0 last"),
-        ("last = 2024-05-01\nfirst = \"1.999\"", "top 0 last"),
-        ("gate = {}\napi = 1\nAbc = 1", "top 0 gate"),
-        ("gate = [{}, 1]", "top 0 gate"),
-        ("gate = [[]]", "top 0 gate"),
-        ("[api]\n[[field]]", "top 0 api"),
-        ("spell = []\nfield = []\nAbc = 1", "top 0 field"),
-        ("spell = 1\nAbc = 1\ngate = [{}]", "top 0 spell"),
-        ("b = 1\na = 1\nZ = 1\ngate = [{}]", "top 0 Z"),
-        ("[[gate]]\nname = \"lower\"\n[aaa]", "top 0 aaa"),
+        (
+            "last = \"1.33\"\nfirst = \"v1.28\"",
+            "entry top 0 member first",
+        ),
+        ("first = 1.28", "entry top 0 member first"),
+        ("last = \"kube=1.33\"\ngate = {}", "entry top 0 member last"),
+        (
+            "last = 2024-05-01\nfirst = \"1.999\"",
+            "entry top 0 member last",
+        ),
+        ("gate = {}\napi = 1\nAbc = 1", "entry top 0 member gate"),
+        ("gate = [{}, 1]", "entry top 0 member gate"),
+        ("gate = [[]]", "entry top 0 member gate"),
+        ("[api]\n[[field]]", "entry top 0 member api"),
+        (
+            "spell = []\nfield = []\nAbc = 1",
+            "entry top 0 member field",
+        ),
+        (
+            "spell = 1\nAbc = 1\ngate = [{}]",
+            "entry top 0 member spell",
+        ),
+        ("b = 1\na = 1\nZ = 1\ngate = [{}]", "entry top 0 member Z"),
+        (
+            "[[gate]]\nname = \"lower\"\n[aaa]",
+            "entry top 0 member aaa",
+        ),
     ];
     for (text, want) in table {
         let got = answer(rt.alloc(), text.as_bytes())?;
@@ -116,30 +145,72 @@ fn names_the_first_fault(rt: HostRuntime) -> Result<(), Fail> {
 #[test]
 fn names_the_first_fault_of_a_gate(rt: HostRuntime) -> Result<(), Fail> {
     let table = [
-        ("", "gate 1 name"),
-        ("name=\"gate\", since=\"1.1\"", "gate 1 name"),
-        ("name=\"AllAlpha\"", "gate 1 name"),
-        ("name=\"AllBeta\"", "gate 1 name"),
-        ("name=7, since=7", "gate 1 name"),
-        ("name=\"AllGamma\", stage=\"GAMMA\"", "gate 1 since"),
-        ("name=\"A\", since=\"1.007\"", "gate 1 since"),
-        ("name=\"A\", since=\"v1.7\"", "gate 1 since"),
-        ("name=\"A\", since=\"1.1000\"", "gate 1 since"),
-        ("name=\"A\", since=1.7", "gate 1 since"),
-        ("name=\"A\", since=\"1.999\"", "gate 1 stage"),
-        ("name=\"A\", since=\"1.7\", stage=\"GAMMA\", default=1", "gate 1 stage"),
-        ("name=\"A\", since=\"1.7\", stage=\"GA\", default=true", "gate 1 stage"),
-        ("name=\"A\", since=\"1.7\", stage=\"\", locked=1", "gate 1 default"),
-        ("name=\"A\", since=\"1.7\", stage=\"\", default=\"true\"", "gate 1 default"),
-        ("name=\"A\", since=\"1.7\", stage=\"DEPRECATED\", default=true, locked=0, x=1", "gate 1 locked"),
-        ("name=\"A\", since=\"1.7\", stage=\"BETA\", default=true, y=1, x=1", "gate 1 x"),
-        ("name=\"A\", since=\"1.7\", removed=false, stage=\"BETA\", default=true", "gate 1 removed"),
-        ("name=\"A\", since=\"1.7\", removed=\"true\"", "gate 1 removed"),
-        ("name=\"A\", since=\"1.7\", removed=true, stage=\"GAMMA\", default=true", "gate 1 default"),
-        ("name=\"A\", since=\"1.7\", removed=true, stage=\"BETA\"", "gate 1 stage"),
-        ("name=\"A\", since=\"1.7\", removed=true}, {name=\"B\", x=1}, {x=1", "gate 2 since"),
-        ("name=\"A\", since=\"1.7\", removed=true, x=1}, {name=\"B\"", "gate 1 x"),
-        ("name=\"A\", since=\"1.7\", removed=true}, {name=\"B\", since=\"1.8\", removed=true}, {", "gate 3 name"),
+        ("", "entry gate 1 member name"),
+        ("name=\"gate\", since=\"1.1\"", "entry gate 1 member name"),
+        ("name=\"AllAlpha\"", "entry gate 1 member name"),
+        ("name=\"AllBeta\"", "entry gate 1 member name"),
+        ("name=7, since=7", "entry gate 1 member name"),
+        (
+            "name=\"AllGamma\", stage=\"GAMMA\"",
+            "entry gate 1 member since",
+        ),
+        ("name=\"A\", since=\"1.007\"", "entry gate 1 member since"),
+        ("name=\"A\", since=\"v1.7\"", "entry gate 1 member since"),
+        ("name=\"A\", since=\"1.1000\"", "entry gate 1 member since"),
+        ("name=\"A\", since=1.7", "entry gate 1 member since"),
+        ("name=\"A\", since=\"1.999\"", "entry gate 1 member stage"),
+        (
+            "name=\"A\", since=\"1.7\", stage=\"GAMMA\", default=1",
+            "entry gate 1 member stage",
+        ),
+        (
+            "name=\"A\", since=\"1.7\", stage=\"GA\", default=true",
+            "entry gate 1 member stage",
+        ),
+        (
+            "name=\"A\", since=\"1.7\", stage=\"\", locked=1",
+            "entry gate 1 member default",
+        ),
+        (
+            "name=\"A\", since=\"1.7\", stage=\"\", default=\"true\"",
+            "entry gate 1 member default",
+        ),
+        (
+            "name=\"A\", since=\"1.7\", stage=\"DEPRECATED\", default=true, locked=0, x=1",
+            "entry gate 1 member locked",
+        ),
+        (
+            "name=\"A\", since=\"1.7\", stage=\"BETA\", default=true, y=1, x=1",
+            "entry gate 1 member x",
+        ),
+        (
+            "name=\"A\", since=\"1.7\", removed=false, stage=\"BETA\", default=true",
+            "entry gate 1 member removed",
+        ),
+        (
+            "name=\"A\", since=\"1.7\", removed=\"true\"",
+            "entry gate 1 member removed",
+        ),
+        (
+            "name=\"A\", since=\"1.7\", removed=true, stage=\"GAMMA\", default=true",
+            "entry gate 1 member default",
+        ),
+        (
+            "name=\"A\", since=\"1.7\", removed=true, stage=\"BETA\"",
+            "entry gate 1 member stage",
+        ),
+        (
+            "name=\"A\", since=\"1.7\", removed=true}, {name=\"B\", x=1}, {x=1",
+            "entry gate 2 member since",
+        ),
+        (
+            "name=\"A\", since=\"1.7\", removed=true, x=1}, {name=\"B\"",
+            "entry gate 1 member x",
+        ),
+        (
+            "name=\"A\", since=\"1.7\", removed=true}, {name=\"B\", since=\"1.8\", removed=true}, {",
+            "entry gate 3 member name",
+        ),
     ];
     for (members, want) in table {
         let text = format!(in rt.alloc(); "api = [{{}}]\ngate = [{{{members}}}]")?;
@@ -153,29 +224,74 @@ fn names_the_first_fault_of_a_gate(rt: HostRuntime) -> Result<(), Fail> {
 fn names_the_first_fault_of_an_api(rt: HostRuntime) -> Result<(), Fail> {
     let long = "abcdefghi.abcdefghi.abcdefghi.abcdefghi.abcdefghi.abcdefghi.abc";
     let table = [
-        ("version=\"v1\"", "api 1 group"),
-        ("group=\"a..b\"", "api 1 group"),
-        ("group=\"a-.b\"", "api 1 group"),
-        ("group=\"Demo\"", "api 1 group"),
-        ("group=\"LONGx\"", "api 1 group"),
-        ("group=\"LONG\"", "api 1 version"),
-        ("group=\"\", version=\"v0\", resource=\"Pods\"", "api 1 version"),
-        ("group=\"\", version=\"v1\", resource=\"Pods\"", "api 1 resource"),
-        ("group=\"\", version=\"v1\", resource=\"pods\", event=\"gone\"", "api 1 since"),
-        ("group=\"\", version=\"v1\", resource=\"pods\", since=\"1.7\", event=\"gone\", kind=1", "api 1 event"),
-        ("group=\"\", version=\"v1\", resource=\"pods\", since=\"1.7\", kind=\"Pod\"", "api 1 event"),
-        ("HEAD\"introduced\", kind=\"pod\", singular=\"Pod\"", "api 1 kind"),
-        ("HEAD\"introduced\", kind=\"Pod\", singular=\"Pod\"", "api 1 singular"),
-        ("HEAD\"introduced\", kind=\"Pod\", singular=\"pod\", namespaced=1, enabled=1", "api 1 namespaced"),
-        ("HEAD\"introduced\", kind=\"Pod\", singular=\"pod\", namespaced=true, enabled=1.0", "api 1 enabled"),
-        ("HEAD\"introduced\", kind=\"Pod\", singular=\"pod\", namespaced=true, enabled=true, removal=\"1.9\"", "api 1 removal"),
-        ("HEAD\"deprecated\", removal=\"1.07\", replacement=\"v0\"", "api 1 removal"),
-        ("HEAD\"deprecated\", removal=\"1.10\", replacement=\"v1beta0\"", "api 1 replacement"),
-        ("HEAD\"deprecated\", removal=\"1.10\", replacement=\"v2\", kind=\"Pod\"", "api 1 kind"),
-        ("HEAD\"removed\", kind=\"Pod\"", "api 1 kind"),
-        ("HEAD\"forgotten\", replacement=\"v2\"", "api 1 replacement"),
+        ("version=\"v1\"", "entry api 1 member group"),
+        ("group=\"a..b\"", "entry api 1 member group"),
+        ("group=\"a-.b\"", "entry api 1 member group"),
+        ("group=\"Demo\"", "entry api 1 member group"),
+        ("group=\"LONGx\"", "entry api 1 member group"),
+        ("group=\"LONG\"", "entry api 1 member version"),
+        (
+            "group=\"\", version=\"v0\", resource=\"Pods\"",
+            "entry api 1 member version",
+        ),
+        (
+            "group=\"\", version=\"v1\", resource=\"Pods\"",
+            "entry api 1 member resource",
+        ),
+        (
+            "group=\"\", version=\"v1\", resource=\"pods\", event=\"gone\"",
+            "entry api 1 member since",
+        ),
+        (
+            "group=\"\", version=\"v1\", resource=\"pods\", since=\"1.7\", event=\"gone\", kind=1",
+            "entry api 1 member event",
+        ),
+        (
+            "group=\"\", version=\"v1\", resource=\"pods\", since=\"1.7\", kind=\"Pod\"",
+            "entry api 1 member event",
+        ),
+        (
+            "HEAD\"introduced\", kind=\"pod\", singular=\"Pod\"",
+            "entry api 1 member kind",
+        ),
+        (
+            "HEAD\"introduced\", kind=\"Pod\", singular=\"Pod\"",
+            "entry api 1 member singular",
+        ),
+        (
+            "HEAD\"introduced\", kind=\"Pod\", singular=\"pod\", namespaced=1, enabled=1",
+            "entry api 1 member namespaced",
+        ),
+        (
+            "HEAD\"introduced\", kind=\"Pod\", singular=\"pod\", namespaced=true, enabled=1.0",
+            "entry api 1 member enabled",
+        ),
+        (
+            "HEAD\"introduced\", kind=\"Pod\", singular=\"pod\", namespaced=true, enabled=true, removal=\"1.9\"",
+            "entry api 1 member removal",
+        ),
+        (
+            "HEAD\"deprecated\", removal=\"1.07\", replacement=\"v0\"",
+            "entry api 1 member removal",
+        ),
+        (
+            "HEAD\"deprecated\", removal=\"1.10\", replacement=\"v1beta0\"",
+            "entry api 1 member replacement",
+        ),
+        (
+            "HEAD\"deprecated\", removal=\"1.10\", replacement=\"v2\", kind=\"Pod\"",
+            "entry api 1 member kind",
+        ),
+        ("HEAD\"removed\", kind=\"Pod\"", "entry api 1 member kind"),
+        (
+            "HEAD\"forgotten\", replacement=\"v2\"",
+            "entry api 1 member replacement",
+        ),
         ("HEAD\"forgotten\"}, {HEAD\"removed\"", "read"),
-        ("HEAD\"forgotten\"}, {HEAD\"removed\", removed=true", "api 2 removed"),
+        (
+            "HEAD\"forgotten\"}, {HEAD\"removed\", removed=true",
+            "entry api 2 member removed",
+        ),
     ];
     let head = "group=\"\", version=\"v1\", resource=\"pods\", since=\"1.7\", event=";
     for (members, want) in table {

@@ -1,0 +1,23 @@
+-- A history that is cut at a release.
+use Rattle.std.proofs.Common.{◌≡◌, ◌↔◌, inl, inr, ℕ, Bool, List, [], ◌∷◌, true, false, cond, filter, refl, sym, ◌∙◌, ap, subst}
+use Rattle.std.proofs.lemmas.Bool.{cases_Bool, cond-true, cond-false}
+use Rattle.gate_spec.specs.declared.entry.GateEntry.{GateEntry}
+use Rattle.gate_spec.specs.Gates.{cutoff}
+
+filter_twice : {X : Type 0} (p : X → Bool) (xs : List X) → filter p (filter p xs) ≡ filter p xs
+filter_twice p [] = refl
+filter_twice p (x ∷ xs) = elim (cases_Bool (p x)) [
+  | inl passes ↦
+      let kept = cond-true (p x) (x ∷ filter p xs) (filter p xs) passes in
+      ap (filter p) kept ∙ cond-true (p x) (x ∷ filter p (filter p xs)) (filter p (filter p xs)) passes ∙ ap (λ ys. x ∷ ys) (filter_twice p xs) ∙ sym kept
+  | inr fails ↦
+      let left = cond-false (p x) (x ∷ filter p xs) (filter p xs) fails in
+      ap (filter p) left ∙ filter_twice p xs ∙ sym left
+]
+
+-- the tables of a release are those of the history that is cut there
+pub cut_tables : (entries cut : List GateEntry) (e : ℕ) → cut ≡ cutoff entries e → cutoff entries e ≡ cutoff cut e
+cut_tables entries cut e is = sym (ap (λ xs. cutoff xs e) is ∙ filter_twice _ entries)
+
+pub same_facts : {X : Type 0} (P : X → Type 0) (x y : X) → x ≡ y → P x ↔ P y
+same_facts P x y same = (subst P same, subst P (sym same))

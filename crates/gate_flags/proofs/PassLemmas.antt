@@ -1,0 +1,83 @@
+-- A pass over pieces that stops at its first fault.
+use Rattle.std.proofs.Common.{◌≡◌, inl, inr, ℕ, ◌+◌, ◌<◌, ◌≤◌, Bool, true, List, [], ◌∷◌, ◌++◌, All, Contains, length, take, drop, get_or, Option, Some, None, Result, Ok, Err, IfErr, refl, sym, ◌∙◌, ap, subst}
+use Rattle.std.specs.Option.{is_some, option_and_then}
+use Rattle.std.proofs.lemmas.List.{take-append-drop, drop_more, take_all}
+use Rattle.std.proofs.lemmas.List.Elements.{All-more, All-contains, Contains-append_left, Contains-append_right, Contains-push}
+use Rattle.gate_spec.specs.declared.entry.GateEntry.{GateEntry}
+use Rattle.gate_spec.specs.declared.entry.SpecAt.TheVariants.{Found, Removed, Never, PreAlpha as ComesLater}
+use Rattle.gate_spec.specs.Gates.{RisesInDate, cutoff}
+use Rattle.gate_spec.proofs.GateLemmas.{spec_at_one}
+use Rattle.gate_flags.specs.Words.{bool_of}
+use Rattle.gate_flags.specs.Pieces.{FlagPiece, pieces, last_pieces}
+use Rattle.gate_flags.specs.Flags.{IsAssignment, IsAccepted, IsFeatureText, HasFault, IsRefused, IsFirst, IsFirstRefusal, IsTextFault}
+use Rattle.gate_flags.specs.declared.fault.GateCause.{GateCause}
+use Rattle.gate_flags.specs.declared.fault.GateCause.TheVariants.{Missing, BadBool, Unknown, PreAlpha, Locked}
+use Rattle.gate_flags.specs.declared.fault.GateFault.{GateFault}
+use Rattle.gate_flags.specs.declared.fault.GateFault.TheVariants.{Memory, At}
+
+pub first_at : (Fine Faulty : FlagPiece → Type 0) (ps : List FlagPiece) (k : ℕ) (p : FlagPiece) (place : ℕ) → k < length ps → p ≡ get_or ps k p → All Fine (take k ps) → Faulty p → p.place ≡ place → IsFirst Fine Faulty ps place
+first_at Fine Faulty ps k p place below is fine faulty at = record {
+  before = take k ps;
+  piece = p;
+  after = drop (k + 1) ps;
+  whole = sym (take-append-drop k ps) ∙ ap (λ s. take k ps ++ s) (drop_more ps k p below ∙ ap (λ q. q ∷ drop (k + 1) ps) (sym is));
+  fine = fine;
+  faulty = faulty;
+  at = at;
+}
+
+pub fine_more : (Fine : FlagPiece → Type 0) (ps : List FlagPiece) (k : ℕ) (p : FlagPiece) → k < length ps → p ≡ get_or ps k p → All Fine (take k ps) → Fine p → All Fine (take (k + 1) ps)
+fine_more Fine ps k p below is fine here = All-more Fine ps k p below fine (subst Fine is here)
+
+pub fine_all : (Fine : FlagPiece → Type 0) (ps : List FlagPiece) (k : ℕ) → length ps ≤ k → All Fine (take k ps) → All Fine ps
+fine_all Fine ps k whole fine = subst (λ qs. All Fine qs) (take_all k ps whole) fine
+
+first_refutes : (Fine Faulty : FlagPiece → Type 0) (ps : List FlagPiece) (place : ℕ) → ((p : FlagPiece) → Faulty p → Fine p → ⊥) → IsFirst Fine Faulty ps place → All Fine ps → ⊥
+first_refutes Fine Faulty ps place apart first all =
+    let there : Contains ps first.piece = subst (λ qs. Contains qs first.piece) (sym first.whole)
+    (Contains-append_right first.before (first.piece ∷ first.after) first.piece (Contains-append_left (first.piece ∷ []) first.after first.piece (Contains-push [] first.piece))) in
+    apart first.piece first.faulty (All-contains Fine ps first.piece all there)
+
+no_boolean : (o : Option (List ℕ)) → o ≡ None → is_some (option_and_then bool_of o) ≡ true → ⊥
+no_boolean o none some = let e : is_some (option_and_then bool_of None) ≡ true = subst (λ v. is_some (option_and_then bool_of v) ≡ true) none some in cc
+
+fault_refutes : (p : FlagPiece) (c : GateCause) → HasFault p c → IsAssignment p → ⊥
+fault_refutes p Missing h a = no_boolean p.value h a
+fault_refutes p BadBool h a = let e : is_some {T = Bool} None ≡ true = subst (λ o. is_some o ≡ true) h.1 a in cc
+fault_refutes p Unknown h a = h
+fault_refutes p PreAlpha h a = h
+fault_refutes p (Locked d) h a = h
+
+refusal_refutes : (entries : List GateEntry) (e : ℕ) (p : FlagPiece) (c : GateCause) → RisesInDate entries → IsRefused entries e p c → IsAccepted (cutoff entries e) p → ⊥
+refusal_refutes entries e p Missing up h a = h
+refusal_refutes entries e p BadBool up h a = h
+refusal_refutes entries e p Unknown up h (inl all) = h.0 all
+refusal_refutes entries e p PreAlpha up h (inl all) = h.0 all
+refusal_refutes entries e p (Locked d) up h (inl all) = h.0 all
+refusal_refutes entries e p Unknown up h (inr s) =
+    elim h.1 [
+      | inl never ↦ (let same : Never ≡ Found s.0 s.1 s.2 = spec_at_one entries p.name e Never (Found s.0 s.1 s.2) up never s.3 in cc)
+      | inr gone ↦ (let same : Removed gone.0 ≡ Found s.0 s.1 s.2 = spec_at_one entries p.name e (Removed gone.0) (Found s.0 s.1 s.2) up gone.1 s.3 in cc)
+    ]
+refusal_refutes entries e p PreAlpha up h (inr s) =
+    let same : ComesLater ≡ Found s.0 s.1 s.2 = spec_at_one entries p.name e ComesLater (Found s.0 s.1 s.2) up h.1 s.3 in cc
+refusal_refutes entries e p (Locked d) up h (inr s) =
+    let same : Found h.1.0 d true ≡ Found s.0 s.1 s.2 = spec_at_one entries p.name e (Found h.1.0 d true) (Found s.0 s.1 s.2) up h.1.1 s.3 in
+    let default_is : s.1 ≡ d = cc in
+    let locked_is : s.2 ≡ true = cc in
+    h.2 (s.4 locked_is ∙ ap Some default_is)
+
+-- a text with a fault isn't valid in the tables of the release
+pub fault_refuses : (entries : List GateEntry) (e : ℕ) (text : List ℕ) (fault : GateFault) → RisesInDate entries → IsTextFault entries e text fault → (fault ≡ Memory → ⊥) → IsFeatureText (cutoff entries e) text → ⊥
+fault_refuses entries e text Memory up h some valid = some refl
+fault_refuses entries e text (At place cause) up (inl h) some valid = first_refutes IsAssignment (λ p. HasFault p cause) (pieces text) place (λ p. fault_refutes p cause) h valid.assignments
+fault_refuses entries e text (At place cause) up (inr h) some valid =
+    first_refutes (IsAccepted (cutoff entries e)) (λ p. IsRefused entries e p cause) (last_pieces (pieces text)) place (λ p. refusal_refutes entries e p cause up) h.1 valid.accepted
+
+pub refusal_is : (entries : List GateEntry) (e : ℕ) (text : List ℕ) (last : List FlagPiece) (fault : GateFault) → All IsAssignment (pieces text) → last ≡ last_pieces (pieces text) → IsFirstRefusal entries e last fault → IsTextFault entries e text fault
+refusal_is entries e text last Memory first same h = tt
+refusal_is entries e text last (At place cause) first same h = inr (first, subst (λ ps. IsFirstRefusal entries e ps (At place cause)) same h)
+
+pub refused_from : {T : Type 0} (entries : List GateEntry) (e : ℕ) (text : List ℕ) (r : Result T GateFault) → RisesInDate entries → IfErr r (IsTextFault entries e text) → IfErr r (λ fault. (fault ≡ Memory → ⊥) → IsFeatureText (cutoff entries e) text → ⊥)
+refused_from entries e text (Ok v) up h = tt
+refused_from entries e text (Err fault) up h = fault_refuses entries e text fault up h

@@ -1,0 +1,70 @@
+-- Which flag texts a release accepts, and the first fault of the others.
+use Rattle.std.specs.Prelude.{◌≡◌, ◌≢◌, ◌⊎◌, ℕ, Bool, true, List, ◌∷◌, ◌++◌, All, Some, None, IsSome, codes}
+use Rattle.gate_spec.specs.declared.entry.GateEntry.{GateEntry}
+use Rattle.gate_spec.specs.declared.entry.Stage.{Stage}
+use Rattle.gate_spec.specs.declared.entry.SpecAt.TheVariants.{Found, Removed, Never, PreAlpha as ComesLater}
+use Rattle.gate_spec.specs.Gates.{cutoff, IsFoundIn, IsSpecAt}
+use Rattle.gate_flags.specs.Pieces.{FlagPiece, pieces, last_pieces}
+use Rattle.gate_flags.specs.Values.{boolean_of}
+use Rattle.gate_flags.specs.declared.fault.GateCause.{GateCause}
+use Rattle.gate_flags.specs.declared.fault.GateCause.TheVariants.{Missing, BadBool, Unknown, PreAlpha, Locked}
+use Rattle.gate_flags.specs.declared.fault.GateFault.{GateFault}
+use Rattle.gate_flags.specs.declared.fault.GateFault.TheVariants.{Memory, At}
+
+-- the piece has a `=` and a boolean word behind it
+abbrev pub IsAssignment : FlagPiece → Type 0
+IsAssignment p = IsSome (boolean_of p)
+
+-- a name that speaks of all gates of a stage
+abbrev pub IsAllWord : List ℕ → Type 0
+IsAllWord name = (name ≡ codes "AllAlpha") ⊎ (name ≡ codes "AllBeta")
+
+-- the tables know the gate, and it isn't locked or is given its default
+abbrev pub IsSettable : List GateEntry → FlagPiece → Type 0
+IsSettable tables p = (stage : Stage) × (default : Bool) × (locked : Bool) × IsFoundIn tables p.name stage default locked × (locked ≡ true → boolean_of p ≡ Some default)
+
+abbrev pub IsAccepted : List GateEntry → FlagPiece → Type 0
+IsAccepted tables p = IsAllWord p.name ⊎ IsSettable tables p
+
+-- the text is valid in the tables
+pub record IsFeatureText (tables : List GateEntry) (text : List ℕ) : Type 0 where
+  pub assignments : All IsAssignment (pieces text)
+  pub accepted : All (IsAccepted tables) (last_pieces (pieces text))
+
+-- the fault of a piece by itself
+abbrev pub HasFault : FlagPiece → GateCause → Type 0
+HasFault p Missing = p.value ≡ None
+HasFault p BadBool = IsSome p.value × (boolean_of p ≡ None)
+HasFault p _ = ⊥
+
+-- the fault of a last piece, by the whole history and the release
+abbrev pub IsRefused : List GateEntry → ℕ → FlagPiece → GateCause → Type 0
+IsRefused entries e p Unknown = ¬ IsAllWord p.name × (IsSpecAt entries p.name e Never ⊎ ((value : Bool) × IsSpecAt entries p.name e (Removed value)))
+IsRefused entries e p PreAlpha = ¬ IsAllWord p.name × IsSpecAt entries p.name e ComesLater
+IsRefused entries e p (Locked default) = ¬ IsAllWord p.name × ((stage : Stage) × IsSpecAt entries p.name e (Found stage default true)) × (boolean_of p ≢ Some default)
+IsRefused entries e p _ = ⊥
+
+-- the first piece that isn't fine stands at this place, and is faulty
+pub record IsFirst (Fine Faulty : FlagPiece → Type 0) (ps : List FlagPiece) (place : ℕ) : Type 0 where
+  pub before : List FlagPiece
+  pub piece : FlagPiece
+  pub after : List FlagPiece
+  pub whole : ps ≡ before ++ piece ∷ after
+  pub fine : All Fine before
+  pub faulty : Faulty piece
+  pub at : piece.place ≡ place
+
+-- the first pass: over all pieces, each by itself
+abbrev pub IsFirstFault : List FlagPiece → GateFault → Type 0
+IsFirstFault ps (At place cause) = IsFirst IsAssignment (λ p. HasFault p cause) ps place
+IsFirstFault ps Memory = ⊥
+
+-- the second pass: over the last piece of each name, by the history and the release
+abbrev pub IsFirstRefusal : List GateEntry → ℕ → List FlagPiece → GateFault → Type 0
+IsFirstRefusal entries e last (At place cause) = IsFirst (IsAccepted (cutoff entries e)) (λ p. IsRefused entries e p cause) last place
+IsFirstRefusal entries e last Memory = ⊥
+
+-- the fault of a text: the first of the first pass, or else the first of the second; want of memory is free
+abbrev pub IsTextFault : List GateEntry → ℕ → List ℕ → GateFault → Type 0
+IsTextFault entries e text (At place cause) = IsFirstFault (pieces text) (At place cause) ⊎ (All IsAssignment (pieces text) × IsFirstRefusal entries e (last_pieces (pieces text)) (At place cause))
+IsTextFault entries e text Memory = Unit {0}

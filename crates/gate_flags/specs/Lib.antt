@@ -1,0 +1,5 @@
+pub mod Words
+pub mod Pieces
+pub mod Values
+pub mod Flags
+pub mod Tables

@@ -1,0 +1,58 @@
+-- The values that a flag text gives to gates.
+use Rattle.std.specs.Prelude.{◌≡◌, ◌↔◌, ◌⊎◌, ℕ, Bool, List, map, find, Contains, Any, Option, None, unwrap_or, codes, option_and_then}
+use Rattle.std.specs.Ordering.{nat_cmp}
+use Rattle.std.specs.Str.{bytes_eq}
+use Rattle.std.specs.Cmp.Lexicographic.{slice_cmp}
+use Rattle.std.specs.List.Sorted.{IsStrictlySortedBy}
+use Rattle.gate_spec.specs.declared.entry.GateEntry.{GateEntry}
+use Rattle.gate_spec.specs.declared.entry.Stage.{Stage}
+use Rattle.gate_spec.specs.declared.entry.Stage.TheVariants.{Alpha, Beta, Ga, Deprecated}
+use Rattle.gate_spec.specs.Gates.{IsFoundIn, IsRemovedIn}
+use Rattle.gate_flags.specs.Words.{bool_of}
+use Rattle.gate_flags.specs.Pieces.{FlagPiece, last_pieces}
+use Rattle.gate_flags.specs.declared.values.GateRow.{GateRow}
+use Rattle.gate_flags.specs.declared.values.RemovedGate.{RemovedGate}
+
+-- the boolean of a piece, where it has a `=` and a boolean word
+abbrev pub boolean_of : FlagPiece → Option Bool
+boolean_of p = option_and_then bool_of p.value
+
+-- the boolean that the last piece of this name says
+abbrev pub given : List FlagPiece → List ℕ → Option Bool
+given ps name = option_and_then boolean_of (find (λ p. bytes_eq p.name name) (last_pieces ps))
+
+-- what is given for all gates of the stage
+abbrev pub all_given : List FlagPiece → Stage → Option Bool
+all_given ps Alpha = given ps (codes "AllAlpha")
+all_given ps Beta = given ps (codes "AllBeta")
+all_given ps Ga = None
+all_given ps Deprecated = None
+
+-- the value of a gate: what is given for it, else what is given for its stage, else its default
+abbrev pub gate_value : List FlagPiece → List ℕ → Stage → Bool → Bool
+gate_value ps name stage default = unwrap_or (given ps name) (unwrap_or (all_given ps stage) default)
+
+-- the row of a gate that the tables know
+pub record IsRow (tables : List GateEntry) (ps : List FlagPiece) (row : GateRow) : Type 0 where
+  pub found : IsFoundIn tables row.name row.stage row.default row.locked
+  pub value : row.value ≡ gate_value ps row.name row.stage row.default
+
+-- the values of gates: rows of those that the release knows, and what it keeps of those that are removed
+pub record Gates : Type 0 where
+  pub rows : List GateRow
+  pub removed : List RemovedGate
+
+-- both lists are in byte order of the names, and have no name twice
+pub record AreInOrder (gates : Gates) : Type 0 where
+  pub rows : IsStrictlySortedBy (slice_cmp nat_cmp) (map (λ r. r.name) gates.rows)
+  pub removed : IsStrictlySortedBy (slice_cmp nat_cmp) (map (λ r. r.name) gates.removed)
+
+-- each gate that the tables know has its row, and each removed gate its value
+pub record AreGateValues (tables : List GateEntry) (ps : List FlagPiece) (gates : Gates) : Type 0 where
+  pub order : AreInOrder gates
+  pub rows : (row : GateRow) → Contains gates.rows row ↔ IsRow tables ps row
+  pub removed : (gate : RemovedGate) → Contains gates.removed gate ↔ IsRemovedIn tables gate.name gate.value
+
+-- the gate has this value
+abbrev pub HasValue : Gates → List ℕ → Bool → Type 0
+HasValue gates name value = Any (λ r. (r.name ≡ name) × (r.value ≡ value)) gates.rows ⊎ Any (λ r. (r.name ≡ name) × (r.value ≡ value)) gates.removed

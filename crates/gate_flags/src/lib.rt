@@ -1,0 +1,22 @@
+//! Feature gate texts, as `AllAlpha=true,WidgetColor=false`: which of them a release accepts, and which value each
+//! gate has then.
+#![tactic(auto)]
+
+mod fault;
+mod flags;
+mod known;
+mod last;
+mod law;
+mod name;
+mod passes;
+mod piece;
+mod rows;
+#[cfg(test)]
+mod tests;
+mod values;
+mod word;
+
+pub use fault::{GateCause, GateFault};
+pub use flags::gate_values;
+pub use law::emulation_of_gates;
+pub use values::{GateRow, GateValues, RemovedGate};

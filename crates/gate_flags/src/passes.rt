@@ -1,0 +1,104 @@
+//! The two passes over the pieces of a text.
+ghost use Rattle.std.specs.Prelude.{◌≡◌, ◌↔◌, ℕ, List, Bool, IsTrue, IfSome, IfNone, All};
+ghost use Rattle.gate_spec.specs.declared.entry.GateEntry.{GateEntry as TheEntry};
+ghost use Rattle.gate_spec.specs.Gates.{cutoff, IsSpecAt};
+ghost use Rattle.gate_flags.specs.Values.{boolean_of};
+ghost use Rattle.gate_flags.specs.Tables.{KnowsGates};
+ghost use Rattle.gate_flags.specs.Flags.{IsAssignment, IsAllWord, IsAccepted, HasFault, IsRefused, IsFirstFault, IsFirstRefusal};
+
+use crate::fault::{GateCause, GateFault};
+use crate::known::{Known, spec_in};
+use crate::last::boolean_of;
+use crate::name::Name;
+use crate::piece::Piece;
+use gate_spec::SpecAt;
+use std::collections::BTreeMap;
+
+fn own_fault(piece: &Piece<'_>) -> Option<GateCause>
+    ensures some { IfSome result (HasFault piece.now) }
+    ensures none { IfNone result (IsAssignment piece.now) }
+{
+    if piece.value.is_none() {
+        Some(GateCause::Missing)
+    } else if boolean_of(piece).is_none() {
+        Some(GateCause::BadBool)
+    } else {
+        None
+    }
+}
+
+/// The first piece that has a fault by itself.
+pub fn first_fault(pieces: &[Piece<'_>]) -> Option<GateFault>
+    ensures some { IfSome result (IsFirstFault pieces.now) }
+    ensures none { IfNone result (All IsAssignment pieces.now) }
+{
+    for piece in pieces {
+        if let Some(cause) = own_fault(piece) {
+            return Some(GateFault::At {
+                place: piece.place,
+                cause,
+            });
+        }
+    }
+    None
+}
+
+fn is_all_word(name: &[u8]) -> bool
+    ensures { IsTrue result ↔ IsAllWord name.now }
+{
+    matches!(name, b"AllAlpha" | b"AllBeta")
+}
+
+fn says(piece: &Piece<'_>, value: bool) -> bool
+    ensures { IsTrue result ↔ (boolean_of piece.now ≡ Some value) }
+{
+    match boolean_of(piece) {
+        Some(said) => said == value,
+        None => false,
+    }
+}
+
+// Why the release refuses the piece, by what it knows of the gate.
+fn refusal(piece: &Piece<'_>, spec: SpecAt) -> Option<GateCause>
+    ensures some { (entries : List TheEntry) (e : ℕ) → IsSpecAt entries piece.now.name e spec → IfSome result (IsRefused entries e piece.now) }
+    ensures none { (entries : List TheEntry) (e : ℕ) → IsSpecAt entries piece.now.name e spec → IfNone result (IsAccepted (cutoff entries e) piece.now) }
+{
+    if is_all_word(piece.name) {
+        return None;
+    }
+    match spec {
+        SpecAt::Never => Some(GateCause::Unknown),
+        SpecAt::Removed(_) => Some(GateCause::Unknown),
+        SpecAt::PreAlpha => Some(GateCause::PreAlpha),
+        SpecAt::Found {
+            default,
+            locked,
+            ..
+        } => {
+            if locked && !says(piece, default) {
+                Some(GateCause::Locked(default))
+            } else {
+                None
+            }
+        }
+    }
+}
+
+/// The first of the last pieces that the release refuses.
+pub fn first_refusal<'a>(
+    known: &BTreeMap<Name<'a>, Known<'a>>,
+    last: &[Piece<'a>],
+) -> Option<GateFault>
+    ensures some { (entries : List TheEntry) (e : ℕ) → KnowsGates entries e known.now → IfSome result (IsFirstRefusal entries e last.now) }
+    ensures none { (entries : List TheEntry) (e : ℕ) → KnowsGates entries e known.now → IfNone result (All (IsAccepted (cutoff entries e)) last.now) }
+{
+    for piece in last {
+        if let Some(cause) = refusal(piece, spec_in(known, piece.name)) {
+            return Some(GateFault::At {
+                place: piece.place,
+                cause,
+            });
+        }
+    }
+    None
+}
