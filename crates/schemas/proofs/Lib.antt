@@ -1,1 +1,5 @@
 pub mod PlaceLemmas
+pub mod PreviousLemmas
+pub mod DecisionLemmas
+pub mod LawLemmas
+pub mod JoinLemmas

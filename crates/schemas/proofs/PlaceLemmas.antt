@@ -1,5 +1,5 @@
 -- Steps of a scan for the first entry that breaks a rule.
-use Rattle.std.proofs.Common.{ℕ, ◌≡◌, ◌+◌, ◌<◌, ◌≤◌, List, Option, Some, length, take, refl, sym, ap, subst, ◌∙◌, arith, inl, inr, get_or, ◌⊎◌}
+use Rattle.std.proofs.Common.{ℕ, ◌≡◌, ◌+◌, ◌<◌, ◌≤◌, List, Some, length, take, refl, sym, subst, ◌∙◌, arith, inl, inr, get_or}
 use Rattle.std.specs.Prelude.{slice_get}
 use Rattle.std.proofs.lemmas.Option.{slice_get_read, slice_get_within}
 use Rattle.std.proofs.Math.Nat.{eq-or-lt_of_le}

@@ -6,4 +6,5 @@ pub mod Places
 pub mod GateRules
 pub mod ApiRules
 pub mod Rules
+pub mod Laws
 pub mod AcceptedFields

@@ -1,4 +1,4 @@
-use Rattle.std.proofs.Common.{ℕ, ◌≡◌, List, refl, sym, subst, inl, inr, rules}
+use Rattle.std.proofs.Common.{ℕ, ◌≡◌, List, refl, sym, subst, inl, inr}
 use Rattle.gate_spec.specs.declared.entry.GateEntry.{GateEntry}
 use Rattle.lifecycle.specs.declared.entry.ApiEntry.{ApiEntry}
 use Rattle.schemas.specs.Places.{Each, Breaks, IsFirst}

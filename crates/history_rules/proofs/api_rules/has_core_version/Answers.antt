@@ -1,4 +1,3 @@
-use Rattle.std.proofs.Common.{rules}
 use Rattle.history_rules.proofs.api_rules.has_core_version.Goals as goal
 
 pub returns-then-is_core : goal.returns-then-is_core

@@ -1,19 +1,8 @@
-use Rattle.std.proofs.Common.{◌≡◌, ℕ, List, sym, ap, subst, ◌∙◌, IsTrue}
+use Rattle.std.proofs.Common.{◌≡◌, sym, ◌∙◌, IsTrue}
 use Rattle.lifecycle.specs.Version.{IsWord, word_text}
-use Rattle.lifecycle.specs.declared.entry.ApiEntry.{ApiEntry}
-use Rattle.lifecycle.specs.declared.version.Level.{Level}
-use Rattle.lifecycle.specs.declared.version.VersionWord.{VersionWord}
-use Rattle.lifecycle.proofs.WordLemmas.{word_text_injective}
-use Rattle.schemas.specs.ApiRules.{IsFairBetween, IsFairDeprecation}
+use Rattle.schemas.proofs.JoinLemmas.{levels_of}
+use Rattle.schemas.specs.ApiRules.{IsFairDeprecation}
 use Rattle.history_rules.proofs.api_rules.is_fair_deprecation.Goals as goal
-
--- the levels are those of the words that the two texts are
-levels_of : (all : List ApiEntry) (x : ApiEntry) (removal : ℕ) (replacement : List ℕ) (own other : VersionWord) → IsWord own × (x.version ≡ word_text own) → IsWord other × (replacement ≡ word_text other) → IsFairDeprecation all x removal replacement → IsFairBetween all x removal replacement own.level other.level
-levels_of all x removal replacement own other v w d =
-    let p : d.own ≡ own = word_text_injective d.own own d.own_word.0 v.0 (sym d.own_word.1 ∙ v.1) in
-    let q : d.other ≡ other = word_text_injective d.other other d.other_word.0 w.0 (sym d.other_word.1 ∙ w.1) in
-    subst (λ (l : Level). IsFairBetween all x removal replacement own.level l) (ap (λ (y : VersionWord). y.level) q)
-    (subst (λ (l : Level). IsFairBetween all x removal replacement l d.other.level) (ap (λ (y : VersionWord). y.level) p) d.fair)
 
 pub returns : goal.returns
 returns c =
