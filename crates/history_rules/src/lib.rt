@@ -6,6 +6,9 @@ mod accept;
 mod api_rules;
 mod fault;
 mod gate_rules;
+mod name_map;
+#[cfg(test)]
+mod tests;
 
 pub use accept::check;
 pub use fault::CheckFault;

@@ -1,0 +1,9 @@
+use Rattle.std.proofs.Common.{ℕ, ◌≡◌, List, Bool, Option, Some, cond, ap, ◌∙◌}
+use Rattle.history_rules.specs.NameMap.{value_at, is_same_name}
+use Rattle.history_rules.proofs.NameLemmas.{same_name}
+use Rattle.history_rules.proofs.name_map.put.Goals as goal
+
+pub returns-in-Ok : goal.returns-in-Ok
+returns-in-Ok g c = λ (x y z : List ℕ).
+    c.in-Ok.ensures.updates.0 (record { ref_ptr = (0, 0); now = x }, record { ref_ptr = (0, 0); now = y }, record { ref_ptr = (0, 0); now = z })
+    ∙ ap (λ (t : Bool). cond t (Some c.args.value) (value_at c.args.map.now x y z)) (same_name c.args.a.now c.args.b.now c.args.c.now x y z)
