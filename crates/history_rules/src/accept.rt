@@ -10,6 +10,7 @@ use crate::fault::{CheckFault, broken};
 use crate::gate_rules::{
     first_late_gate, first_not_rising, first_unfit_spec, first_unripe_removal,
 };
+use crate::previous::{link_gates, link_versions};
 use minor_version::Minor;
 use schemas::{Accepted, Array, History};
 use std::alloc::Global;
@@ -26,7 +27,7 @@ fn last_release(h: &History) -> Option<Minor>
 }
 
 /// The lowest rule that the history breaks, at the first entry that breaks it.
-fn check_rules(h: &History) -> Result<(), CheckFault>
+fn check_rules(alloc: Global, h: &History) -> Result<(), CheckFault>
     ensures ok { OnOk result (IsAccepted h.now) }
     ensures broken { IfErr result (IsFaultOf h.now) }
 {
@@ -35,22 +36,28 @@ fn check_rules(h: &History) -> Result<(), CheckFault>
     };
     let gates = h.gates.items();
     let apis = h.apis.items();
+    let Ok(previous_gates) = link_gates(alloc, gates) else {
+        return Err(CheckFault::Memory);
+    };
+    let Ok(previous_apis) = link_versions(alloc, apis) else {
+        return Err(CheckFault::Memory);
+    };
     if let Some(index) = first_late_gate(last, gates) {
         return Err(broken(2, Array::Gate, index));
     }
     if let Some(index) = first_late_api(last, apis) {
         return Err(broken(2, Array::Api, index));
     }
-    if let Some(index) = first_not_rising(gates) {
+    if let Some(index) = first_not_rising(gates, &previous_gates) {
         return Err(broken(3, Array::Gate, index));
     }
     if let Some(index) = first_unfit_spec(gates) {
         return Err(broken(4, Array::Gate, index));
     }
-    if let Some(index) = first_unripe_removal(gates) {
+    if let Some(index) = first_unripe_removal(gates, &previous_gates) {
         return Err(broken(5, Array::Gate, index));
     }
-    if let Some(index) = first_out_of_order(apis) {
+    if let Some(index) = first_out_of_order(apis, &previous_apis) {
         return Err(broken(6, Array::Api, index));
     }
     if let Some(index) = first_mixed_kind(apis) {
@@ -59,10 +66,10 @@ fn check_rules(h: &History) -> Result<(), CheckFault>
     if let Some(index) = first_unfair_deprecation(apis) {
         return Err(broken(8, Array::Api, index));
     }
-    if let Some(index) = first_unplanned(last, apis) {
+    if let Some(index) = first_unplanned(last, apis, &previous_apis) {
         return Err(broken(9, Array::Api, index));
     }
-    if let Some(index) = first_early_forgetting(apis) {
+    if let Some(index) = first_early_forgetting(apis, &previous_apis) {
         return Err(broken(10, Array::Api, index));
     }
     Ok(())
@@ -70,12 +77,12 @@ fn check_rules(h: &History) -> Result<(), CheckFault>
 
 /// Accepts the history, or names the lowest rule that it breaks, at the first entry that breaks it. Either refusal
 /// drops the history.
-pub fn check(_alloc: Global, h: History) -> Result<Accepted, CheckFault>
+pub fn check(alloc: Global, h: History) -> Result<Accepted, CheckFault>
     ensures same { IfOk result (λ accepted. accepted ≡ h) }
     ensures accepted { IfOk result IsAccepted }
     ensures broken { IfErr result (IsFaultOf h) }
 {
-    match check_rules(&h) {
+    match check_rules(alloc, &h) {
         Ok(()) => Ok(Accepted::take(h)),
         Err(fault) => Err(fault),
     }

@@ -1,11 +1,12 @@
 //! The rules on versions of resources: for each, the number of the first entry that breaks it.
-ghost use Rattle.std.specs.Prelude.{◌≡◌, ◌↔◌, [], IsTrue, codes};
+ghost use Rattle.std.specs.Prelude.{◌≡◌, ◌↔◌, [], IsTrue, codes, length};
 ghost use Rattle.std.specs.Option.{option_copied};
 ghost use Rattle.lifecycle.specs.Entry.{IsIntroduced, IsRemoved};
 ghost use Rattle.lifecycle.specs.Stability.{rank_of};
 ghost use Rattle.schemas.specs.Places.{FindsFirst};
-ghost use Rattle.schemas.specs.ApiRules.{is_of_version, previous_of_version, name_of, notice_of, AgreeInKind, DifferInKind, KeepKindsApart, HasLawfulName, IsNext, StandsInOrder, NamesItsKind, IsFairBetween, IsFairDeprecation, IsFairChange, DeprecatesFairly, IsPlanned, IsKept, KeepsPlan, IsForgotten, IsInFavourOf, IsLateAfter, AreForgottenFirst, IsForgottenLate, ForgetsLate};
+ghost use Rattle.schemas.specs.ApiRules.{previous_of_version, name_of, notice_of, AgreeInKind, DifferInKind, KeepKindsApart, HasLawfulName, IsNext, StandsInOrder, NamesItsKind, IsFairBetween, IsFairDeprecation, IsFairChange, DeprecatesFairly, IsPlanned, IsKept, KeepsPlan, IsForgotten, IsInFavourOf, IsLateAfter, AreForgottenFirst, IsForgottenLate, ForgetsLate};
 ghost use Rattle.schemas.specs.Rules.{IsApiBy};
+ghost use Rattle.history_rules.specs.Previous.{AreLinked};
 
 use lifecycle::{ApiChange, ApiEntry, Level, version_word};
 use minor_version::{Minor, Text};
@@ -23,18 +24,6 @@ pub fn first_late_api(last: Minor, entries: &[ApiEntry]) -> Option<u64>
         }
     }
     None
-}
-
-fn same_version(x: &ApiEntry, y: &ApiEntry) -> bool
-    ensures { result ≡ is_of_version x.now y.now }
-{
-    x.group == y.group && x.version == y.version && x.resource == y.resource
-}
-
-fn previous_of<'a>(earlier: &'a [ApiEntry], entry: &ApiEntry) -> Option<&'a ApiEntry>
-    ensures { option_copied result ≡ previous_of_version earlier.now entry.now }
-{
-    earlier.iter().rev().find(|y| same_version(entry, y))
 }
 
 fn is_next(previous: Option<&ApiEntry>, entry: &ApiEntry) -> bool
@@ -57,11 +46,12 @@ fn is_next(previous: Option<&ApiEntry>, entry: &ApiEntry) -> bool
 }
 
 /// The first entry that isn't the next one of its version, in the order introduced, deprecated, removed, forgotten (HR6).
-pub fn first_out_of_order(entries: &[ApiEntry]) -> Option<u64>
+pub fn first_out_of_order(entries: &[ApiEntry], previous: &[Option<&ApiEntry>]) -> Option<u64>
+    requires { AreLinked previous_of_version entries.now (length entries.now) previous.now }
     ensures { FindsFirst StandsInOrder entries.now result }
 {
     for (i, entry) in entries.iter().enumerate() {
-        if !is_next(previous_of(&entries[..i], entry), entry) {
+        if !is_next(previous[i], entry) {
             return Some(i as u64 + 1);
         }
     }
@@ -319,11 +309,16 @@ fn is_kept(all: &[ApiEntry], last: Minor, previous: Option<&ApiEntry>, entry: &A
 }
 
 /// The first removal that isn't as planned, or deprecation whose planned removal is missing (HR9).
-pub fn first_unplanned(last: Minor, entries: &[ApiEntry]) -> Option<u64>
+pub fn first_unplanned(
+    last: Minor,
+    entries: &[ApiEntry],
+    previous: &[Option<&ApiEntry>],
+) -> Option<u64>
+    requires { AreLinked previous_of_version entries.now (length entries.now) previous.now }
     ensures { FindsFirst (KeepsPlan entries.now last) entries.now result }
 {
     for (i, entry) in entries.iter().enumerate() {
-        if !is_kept(entries, last, previous_of(&entries[..i], entry), entry) {
+        if !is_kept(entries, last, previous[i], entry) {
             return Some(i as u64 + 1);
         }
     }
@@ -363,11 +358,12 @@ fn is_late(previous: Option<&ApiEntry>, entry: &ApiEntry) -> bool
 }
 
 /// The first version that is forgotten too early (HR10).
-pub fn first_early_forgetting(entries: &[ApiEntry]) -> Option<u64>
+pub fn first_early_forgetting(entries: &[ApiEntry], previous: &[Option<&ApiEntry>]) -> Option<u64>
+    requires { AreLinked previous_of_version entries.now (length entries.now) previous.now }
     ensures { FindsFirst (ForgetsLate entries.now) entries.now result }
 {
     for (i, entry) in entries.iter().enumerate() {
-        if !forgets_late(entries, previous_of(&entries[..i], entry), entry) {
+        if !forgets_late(entries, previous[i], entry) {
             return Some(i as u64 + 1);
         }
     }

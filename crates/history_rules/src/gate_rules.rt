@@ -1,9 +1,10 @@
 //! The rules on feature gates: for each, the number of the first entry that breaks it.
-ghost use Rattle.std.specs.Prelude.{◌≡◌, ◌↔◌, ◌<◌, IsTrue, IfSome};
+ghost use Rattle.std.specs.Prelude.{◌↔◌, IsTrue, length};
 ghost use Rattle.std.specs.Option.{option_copied};
 ghost use Rattle.schemas.specs.Places.{FindsFirst};
-ghost use Rattle.schemas.specs.GateRules.{previous_of_gate, IsGone, IsFitSpec, IsRipe, RisesInGate, FitsStage, FollowsLockedSpec};
+ghost use Rattle.schemas.specs.GateRules.{previous_of_gate, IsGone, IsFitSpec, IsRipe, RisesFrom, RisesInGate, FitsStage, FollowsLockedSpec};
 ghost use Rattle.schemas.specs.Rules.{IsGateBy};
+ghost use Rattle.history_rules.specs.Previous.{AreLinked};
 
 use gate_spec::{GateChange, GateEntry, Stage};
 use minor_version::Minor;
@@ -23,12 +24,6 @@ pub fn first_late_gate(last: Minor, entries: &[GateEntry]) -> Option<u64>
     None
 }
 
-fn previous_of<'a>(earlier: &'a [GateEntry], entry: &GateEntry) -> Option<&'a GateEntry>
-    ensures { option_copied result ≡ previous_of_gate earlier.now entry.now }
-{
-    earlier.iter().rev().find(|y| entry.name == y.name)
-}
-
 fn is_gone(change: &GateChange) -> bool
     ensures { IsTrue result ↔ IsGone change.now }
 {
@@ -36,7 +31,7 @@ fn is_gone(change: &GateChange) -> bool
 }
 
 fn rises(previous: Option<&GateEntry>, entry: &GateEntry) -> bool
-    ensures { IsTrue result ↔ IfSome (option_copied previous.entry) (λ y. (y.since < entry.now.since) × ¬ IsGone y.change) }
+    ensures { IsTrue result ↔ RisesFrom (option_copied previous.entry) entry.now.since }
 {
     match previous {
         None => true,
@@ -45,11 +40,12 @@ fn rises(previous: Option<&GateEntry>, entry: &GateEntry) -> bool
 }
 
 /// The first entry that isn't dated after the previous entry of its gate, or follows a removal (HR3).
-pub fn first_not_rising(entries: &[GateEntry]) -> Option<u64>
+pub fn first_not_rising(entries: &[GateEntry], previous: &[Option<&GateEntry>]) -> Option<u64>
+    requires { AreLinked previous_of_gate entries.now (length entries.now) previous.now }
     ensures { FindsFirst RisesInGate entries.now result }
 {
     for (i, entry) in entries.iter().enumerate() {
-        if !rises(previous_of(&entries[..i], entry), entry) {
+        if !rises(previous[i], entry) {
             return Some(i as u64 + 1);
         }
     }
@@ -100,11 +96,12 @@ fn is_ripe(previous: Option<&GateEntry>, entry: &GateEntry) -> bool
 }
 
 /// The first removal that doesn't follow a locked spec of its gate, three releases later or more (HR5).
-pub fn first_unripe_removal(entries: &[GateEntry]) -> Option<u64>
+pub fn first_unripe_removal(entries: &[GateEntry], previous: &[Option<&GateEntry>]) -> Option<u64>
+    requires { AreLinked previous_of_gate entries.now (length entries.now) previous.now }
     ensures { FindsFirst FollowsLockedSpec entries.now result }
 {
     for (i, entry) in entries.iter().enumerate() {
-        if !is_ripe(previous_of(&entries[..i], entry), entry) {
+        if !is_ripe(previous[i], entry) {
             return Some(i as u64 + 1);
         }
     }

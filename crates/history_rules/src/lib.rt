@@ -7,6 +7,7 @@ mod api_rules;
 mod fault;
 mod gate_rules;
 mod name_map;
+mod previous;
 #[cfg(test)]
 mod tests;
 

@@ -9,14 +9,25 @@ use std::collections::BTreeMap;
 pub type NameMap<'a, V> = BTreeMap<(&'a [u8], &'a [u8], &'a [u8]), V>;
 
 /// The value at the name.
-pub fn value_of<'a, V: Copy>(map: &NameMap<'a, V>, a: &'a [u8], b: &'a [u8], c: &'a [u8]) -> Option<V>
+pub fn value_of<'a, V: Copy>(
+    map: &NameMap<'a, V>,
+    a: &'a [u8],
+    b: &'a [u8],
+    c: &'a [u8],
+) -> Option<V>
     ensures { result ≡ value_at map.now a.now b.now c.now }
 {
     map.get(&(a, b, c)).copied()
 }
 
 /// Puts the value at the name. Where memory runs out, the value is dropped.
-pub fn put<'a, V: Drop>(map: &mut NameMap<'a, V>, a: &'a [u8], b: &'a [u8], c: &'a [u8], value: V) -> Result<(), Memory>
+pub fn put<'a, V: Drop>(
+    map: &mut NameMap<'a, V>,
+    a: &'a [u8],
+    b: &'a [u8],
+    c: &'a [u8],
+    value: V,
+) -> Result<(), Memory>
     ensures { OnOk result ((x y z : List ℕ) → value_at map.new x y z ≡ cond (is_same_name a.now b.now c.now x y z) (Some value) (value_at map.old x y z)) }
 {
     match map.insert((a, b, c), value) {

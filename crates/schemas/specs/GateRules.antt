@@ -23,9 +23,13 @@ abbrev pub IsLockedSpec : GateChange → Type 0
 IsLockedSpec (Spec stage default locked) = locked ≡ true
 IsLockedSpec Gone = ⊥
 
--- HR3: the entry is dated after the previous entry of its gate, which isn't a removal
+-- the date is behind that of the gate's previous entry, which isn't a removal
+abbrev pub RisesFrom : Option GateEntry → ℕ → Type 0
+RisesFrom previous since = IfSome previous (λ y. (y.since < since) × ¬ IsGone y.change)
+
+-- HR3: the entry is dated after the previous entry of its gate, and doesn't follow a removal
 abbrev pub RisesInGate : List GateEntry → GateEntry → Type 0
-RisesInGate earlier x = IfSome (previous_of_gate earlier x) (λ y. (y.since < x.since) × ¬ IsGone y.change)
+RisesInGate earlier x = RisesFrom (previous_of_gate earlier x) x.since
 
 -- what a stage asks of a spec: alpha is off and not locked, beta isn't locked, general availability is on
 abbrev pub IsFitSpec : GateChange → Type 0
