@@ -1,5 +1,11 @@
 -- The lines that the program writes.
-use Rattle.std.specs.Prelude.{ℕ, List, ◌++◌, length, codes, decimal}
+use Rattle.std.specs.Prelude.{ℕ, Bool, true, false, List, ◌++◌, length, codes, decimal}
+use Rattle.std.specs.List.{flat_map}
+use Rattle.gate_flags.specs.declared.fault.GateCause.{GateCause}
+use Rattle.gate_flags.specs.declared.fault.GateCause.TheVariants as cause
+use Rattle.gate_flags.specs.declared.values.GateRow.{GateRow}
+use Rattle.gate_spec.specs.declared.entry.Stage.{Stage}
+use Rattle.gate_spec.specs.declared.entry.Stage.TheVariants as stage
 use Rattle.minor_version.specs.Release.{release_text}
 use Rattle.minor_version.specs.Ranges.{floor_of}
 use Rattle.schemas.specs.Arrays.{array_name}
@@ -41,3 +47,34 @@ accepted_line h = codes "accepted " ++ (release_text (first_of h) ++ (codes " to
 abbrev pub version_line : ℕ → ℕ → VersionFault → List ℕ
 version_line first last NotAVersion = codes "emulated-version: not a version\n"
 version_line first last OutOfRange = codes "emulated-version: out of range " ++ (release_text (floor_of first last) ++ (codes " to " ++ (release_text last ++ codes "\n")))
+
+-- a stage as `gates` names it
+abbrev pub stage_title : Stage → List ℕ
+stage_title stage.Alpha = codes "ALPHA"
+stage_title stage.Beta = codes "BETA"
+stage_title stage.Ga = codes "GA"
+stage_title stage.Deprecated = codes "DEPRECATED"
+
+abbrev pub bool_word : Bool → List ℕ
+bool_word true = codes "true"
+bool_word false = codes "false"
+
+-- a gate that the release knows
+abbrev pub gate_line : GateRow → List ℕ
+gate_line row = row.name ++ (codes " " ++ (stage_title row.stage ++ (codes " default=" ++ (bool_word row.default ++ (codes " locked=" ++ (bool_word row.locked
+    ++ (codes " value=" ++ (bool_word row.value ++ codes "\n"))))))))
+
+-- each gate in a line
+abbrev pub gate_lines : List GateRow → List ℕ
+gate_lines rows = flat_map gate_line rows
+
+abbrev pub cause_name : GateCause → List ℕ
+cause_name cause.Missing = codes "Missing"
+cause_name cause.BadBool = codes "BadBool"
+cause_name cause.Unknown = codes "Unknown"
+cause_name cause.PreAlpha = codes "PreAlpha"
+cause_name (cause.Locked default) = codes "Locked"
+
+-- why a piece of a feature gate text is refused
+abbrev pub gate_fault_line : ℕ → GateCause → List ℕ
+gate_fault_line place c = codes "feature-gates: piece " ++ (decimal place ++ (codes ": " ++ (cause_name c ++ codes "\n")))

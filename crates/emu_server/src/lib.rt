@@ -5,6 +5,7 @@ mod answer;
 mod discovery;
 mod edges;
 mod emulated;
+mod gates;
 mod lines;
 mod run;
 mod status;

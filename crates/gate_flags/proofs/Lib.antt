@@ -1,5 +1,5 @@
 pub mod PieceLemmas
-pub mod TableLemmas
+pub mod LookupLemmas
 pub mod PassLemmas
 pub mod RowLemmas
 pub mod SearchLemmas

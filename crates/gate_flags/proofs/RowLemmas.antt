@@ -21,7 +21,7 @@ use Rattle.gate_spec.specs.Gates.{RisesInDate, cutoff, IsRemovedIn, IsSpecAt}
 use Rattle.gate_spec.proofs.GateLemmas.{spec_at_one}
 use Rattle.gate_flags.specs.Pieces.{FlagPiece, last_pieces}
 use Rattle.gate_flags.specs.Values.{boolean_of, given, all_given, gate_value, IsRow, Gates, AreInOrder, AreGateValues}
-use Rattle.gate_flags.specs.Tables.{spec_in, KnowsGates, HasBooleans, boolean_in, all_in, value_in, row_of, removed_of, rows_of, removed_gates_of}
+use Rattle.gate_flags.specs.Lookups.{spec_in, KnowsGates, HasBooleans, boolean_in, all_in, value_in, row_of, removed_of, rows_of, removed_gates_of}
 use Rattle.gate_flags.specs.declared.known.Known.{Known}
 use Rattle.gate_flags.specs.declared.values.GateRow.{GateRow}
 use Rattle.gate_flags.specs.declared.values.RemovedGate.{RemovedGate}

@@ -1,12 +1,12 @@
 -- A binary search by name among what rises by name.
-use Rattle.std.proofs.Common.{◌≡◌, ◌⊎◌, inl, inr, ℕ, ◌+◌, ◌<◌, ◌≤◌, Ordering, Less, Equal, Greater, false, List, [], ◌∷◌, All, length, map, get_or, Result, Ok, Err, refl, sym, ◌∙◌, ap, subst, arith}
-use Rattle.std.specs.Ordering.{nat_cmp, is_lt, ordering_index, ordering_reverse}
+use Rattle.std.proofs.Common.{◌≡◌, ◌↔◌, Contains, ◌⊎◌, inl, inr, ℕ, ◌+◌, ◌<◌, Ordering, Less, Equal, Greater, List, [], ◌∷◌, All, map, get_or, Ok, Err, refl, sym, ◌∙◌, ap, arith}
+use Rattle.std.specs.Ordering.{nat_cmp, is_lt, ordering_reverse}
 use Rattle.std.specs.List.{AllPairs, AllByRecursion}
 use Rattle.std.specs.List.Sorted.{IsStrictlySortedBy, IsSortedBy, IsBinarySearchResult}
 use Rattle.std.specs.Cmp.Lexicographic.{slice_cmp}
 use Rattle.std.proofs.lemmas.Bool.{cases_lt}
 use Rattle.std.proofs.lemmas.Cmp.{nat_list_cmp_total, tied_itself}
-use Rattle.std.proofs.lemmas.List.Elements.{All-nil, All-cons}
+use Rattle.std.proofs.lemmas.List.Elements.{All-nil, All-cons, All-contains, Contains-append_left, Contains-append_right, Contains-append_cases, Contains-push, Contains-push_cases}
 use Rattle.std.proofs.lemmas.List.Kept.{AllPairs-cons}
 use Rattle.std.proofs.lemmas.List.Sorted.{searchable_from_sorted}
 use Rattle.std.proofs.lemmas.Map.Lookups.{exact_bytes}
@@ -40,3 +40,48 @@ module _ {X : Type 0} (name : X → List ℕ) where
         | inl before ↦ not_named key (get_or xs k d) Less (parts.0 k d (omega arith) before) (λ e. cc)
         | inr after ↦ not_named key (get_or xs k d) Greater (parts.1 k d after below) (λ e. cc)
       ]
+
+  above_head : (x : X) (xs : List X) (z : X) → IsStrictlySortedBy (slice_cmp nat_cmp) (map name (x ∷ xs)) → Contains xs z → slice_cmp nat_cmp (name x) (name z) ≡ Less
+  unfolding IsStrictlySortedBy
+  above_head x xs z rise there = All-contains (λ y. slice_cmp nat_cmp (name x) (name y) ≡ Less) xs z (all_named (name x) xs rise.0) there
+
+  tail_rises : (x : X) (xs : List X) → IsStrictlySortedBy (slice_cmp nat_cmp) (map name (x ∷ xs)) → IsStrictlySortedBy (slice_cmp nat_cmp) (map name xs)
+  unfolding IsStrictlySortedBy
+  tail_rises x xs rise = rise.1
+
+  not_below_itself : (n m : List ℕ) → n ≡ m → slice_cmp nat_cmp n m ≡ Less → ⊥
+  not_below_itself n m same less =
+      let tied : slice_cmp nat_cmp n m ≡ Equal = ap (slice_cmp nat_cmp n) (sym same) ∙ tied_itself nat_list_cmp_total n in
+      let clash : Less ≡ Equal = sym less ∙ tied in
+      cc
+
+  in_cons : (x : X) (xs : List X) (z : X) → Contains (x ∷ xs) z → (x ≡ z) ⊎ Contains xs z
+  in_cons x xs z h = elim (Contains-append_cases (x ∷ []) xs z h) [
+    | inl here ↦ elim (Contains-push_cases [] x z here) [ inl none ↦ absurd (let below : none.0 < 0 = none.1 in omega arith) | inr e ↦ inl e ]
+    | inr later ↦ inr later
+  ]
+
+  same_head : (x y : X) (xs ys : List X) → IsStrictlySortedBy (slice_cmp nat_cmp) (map name (x ∷ xs)) → IsStrictlySortedBy (slice_cmp nat_cmp) (map name (y ∷ ys)) → Contains (y ∷ ys) x → Contains (x ∷ xs) y → x ≡ y
+  same_head x y xs ys a b h k = elim (in_cons y ys x h) [
+    | inl same ↦ sym same
+    | inr later ↦ elim (in_cons x xs y k) [
+      | inl same ↦ same
+      | inr after ↦ absurd (not_below_itself (name x) (name x) refl (nat_list_cmp_total.trans (name x) (name y) (name x) (above_head x xs y a after) (above_head y ys x b later)))
+    ]
+  ]
+
+  tail_in : (x y : X) (xs ys : List X) (z : X) → x ≡ y → IsStrictlySortedBy (slice_cmp nat_cmp) (map name (x ∷ xs)) → (Contains (x ∷ xs) z → Contains (y ∷ ys) z) → Contains xs z → Contains ys z
+  tail_in x y xs ys z same a h there = elim (in_cons y ys z (h (Contains-append_right (x ∷ []) xs z there))) [
+    | inl e ↦ absurd (not_below_itself (name x) (name z) (ap name (same ∙ e)) (above_head x xs z a there))
+    | inr later ↦ later
+  ]
+
+  -- what rises by name is determined by its elements
+  pub one_in_order : (xs ys : List X) → IsStrictlySortedBy (slice_cmp nat_cmp) (map name xs) → IsStrictlySortedBy (slice_cmp nat_cmp) (map name ys) → ((x : X) → Contains xs x ↔ Contains ys x) → xs ≡ ys
+  one_in_order [] [] a b h = refl
+  one_in_order [] (y ∷ ys) a b h = absurd (let none = (h y).1 (Contains-append_left (y ∷ []) ys y (Contains-push [] y)) in let below : none.0 < 0 = none.1 in omega arith)
+  one_in_order (x ∷ xs) [] a b h = absurd (let none = (h x).0 (Contains-append_left (x ∷ []) xs x (Contains-push [] x)) in let below : none.0 < 0 = none.1 in omega arith)
+  one_in_order (x ∷ xs) (y ∷ ys) a b h =
+      let same : x ≡ y = same_head x y xs ys a b ((h x).0 (Contains-append_left (x ∷ []) xs x (Contains-push [] x))) ((h y).1 (Contains-append_left (y ∷ []) ys y (Contains-push [] y))) in
+      let rest : xs ≡ ys = one_in_order xs ys (tail_rises x xs a) (tail_rises y ys b) (λ z. (tail_in x y xs ys z same a (h z).0, tail_in y x ys xs z (sym same) b (h z).1)) in
+      ap (λ w. w ∷ xs) same ∙ ap (λ ws. y ∷ ws) rest

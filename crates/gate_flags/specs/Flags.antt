@@ -68,3 +68,11 @@ IsFirstRefusal entries e last Memory = ⊥
 abbrev pub IsTextFault : List GateEntry → ℕ → List ℕ → GateFault → Type 0
 IsTextFault entries e text (At place cause) = IsFirstFault (pieces text) (At place cause) ⊎ (All IsAssignment (pieces text) × IsFirstRefusal entries e (last_pieces (pieces text)) (At place cause))
 IsTextFault entries e text Memory = Unit {0}
+
+-- the name of a cause, as it is printed
+abbrev pub cause_name : GateCause → List ℕ
+cause_name Missing = codes "Missing"
+cause_name BadBool = codes "BadBool"
+cause_name Unknown = codes "Unknown"
+cause_name PreAlpha = codes "PreAlpha"
+cause_name (Locked default) = codes "Locked"

@@ -2,4 +2,4 @@ pub mod Words
 pub mod Pieces
 pub mod Values
 pub mod Flags
-pub mod Tables
+pub mod Lookups

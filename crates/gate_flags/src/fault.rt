@@ -1,4 +1,5 @@
 ghost use Rattle.std.specs.Prelude.{◌≡◌};
+ghost use Rattle.gate_flags.specs.Flags.{cause_name};
 
 use basis::Memory;
 use std::error::Error;
@@ -19,6 +20,27 @@ pub enum GateCause {
     Locked(bool),
 }
 
+impl GateCause {
+    /// The name of the cause, as it is printed.
+    pub fn name(self) -> &'static str
+        ensures { result.now ≡ cause_name self }
+    {
+        match self {
+            GateCause::Missing => "Missing",
+            GateCause::BadBool => "BadBool",
+            GateCause::Unknown => "Unknown",
+            GateCause::PreAlpha => "PreAlpha",
+            GateCause::Locked(_) => "Locked",
+        }
+    }
+}
+
+impl fmt::Display for GateCause {
+    fn fmt<W: fmt::Write>(&self, f: &mut fmt::Formatter<W>) -> fmt::Result {
+        f.write_str(self.name())
+    }
+}
+
 /// Why a feature gate text gave no values.
 #[derive(Clone, Copy, Debug, PartialEq, Eq)]
 pub enum GateFault {
@@ -37,3 +59,14 @@ impl From<Memory> for GateFault {
         GateFault::Memory
     }
 }
+
+impl fmt::Display for GateFault {
+    fn fmt<W: fmt::Write>(&self, f: &mut fmt::Formatter<W>) -> fmt::Result {
+        match self {
+            GateFault::Memory => f.write_str("out of memory"),
+            GateFault::At { place, cause } => write!(f, "piece {place}: {cause}"),
+        }
+    }
+}
+
+impl Error for GateFault {}

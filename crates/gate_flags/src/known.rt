@@ -1,7 +1,7 @@
 //! What a release knows of each gate.
 ghost use Rattle.std.specs.Prelude.{◌≡◌, IfOk};
 ghost use Rattle.gate_spec.specs.Gates.{RisesInDate};
-ghost use Rattle.gate_flags.specs.Tables.{spec_in, KnowsGates};
+ghost use Rattle.gate_flags.specs.Lookups.{spec_in, KnowsGates};
 
 use crate::name::Name;
 use basis::Memory;

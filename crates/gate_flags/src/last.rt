@@ -2,7 +2,7 @@
 ghost use Rattle.std.specs.Prelude.{◌≡◌, IfOk};
 ghost use Rattle.gate_flags.specs.Pieces.{last_pieces};
 ghost use Rattle.gate_flags.specs.Values.{boolean_of};
-ghost use Rattle.gate_flags.specs.Tables.{HasBooleans};
+ghost use Rattle.gate_flags.specs.Lookups.{HasBooleans};
 
 use crate::name::Name;
 use crate::piece::Piece;

@@ -16,4 +16,5 @@ pub fn emulation_of_gates(entries: &[GateEntry], cut: &[GateEntry], e: Minor, te
     ensures rises { RisesInDate cut.now }
     ensures accepted { IsFeatureText (cutoff entries.now e) text.now ↔ IsFeatureText (cutoff cut.now e) text.now }
     ensures values { (gates : Gates) → AreGateValues (cutoff entries.now e) (pieces text.now) gates ↔ AreGateValues (cutoff cut.now e) (pieces text.now) gates }
+    ensures one { (a b : Gates) → AreGateValues (cutoff entries.now e) (pieces text.now) a → AreGateValues (cutoff entries.now e) (pieces text.now) b → a ≡ b }
 {}

@@ -3,7 +3,7 @@ ghost use Rattle.std.specs.Prelude.{◌≡◌, ◌↔◌, ℕ, List, Bool, IsTru
 ghost use Rattle.gate_spec.specs.declared.entry.GateEntry.{GateEntry as TheEntry};
 ghost use Rattle.gate_spec.specs.Gates.{cutoff, IsSpecAt};
 ghost use Rattle.gate_flags.specs.Values.{boolean_of};
-ghost use Rattle.gate_flags.specs.Tables.{KnowsGates};
+ghost use Rattle.gate_flags.specs.Lookups.{KnowsGates};
 ghost use Rattle.gate_flags.specs.Flags.{IsAssignment, IsAllWord, IsAccepted, HasFault, IsRefused, IsFirstFault, IsFirstRefusal};
 
 use crate::fault::{GateCause, GateFault};

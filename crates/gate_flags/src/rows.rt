@@ -1,6 +1,6 @@
 //! The rows of the gates that a release knows, and what is kept of those that are removed.
 ghost use Rattle.std.specs.Prelude.{◌≡◌, IfOk};
-ghost use Rattle.gate_flags.specs.Tables.{boolean_in, all_in, value_in, row_of, removed_of, rows_of, removed_gates_of};
+ghost use Rattle.gate_flags.specs.Lookups.{boolean_in, all_in, value_in, row_of, removed_of, rows_of, removed_gates_of};
 
 use crate::known::Known;
 use crate::name::Name;

@@ -1,4 +1,4 @@
-use crate::{GateFault, GateValues, gate_values};
+use crate::{GateCause, GateFault, GateValues, gate_values};
 use gate_spec::{GateChange, GateEntry, Stage, rises_in_date};
 use minor_version::{Text, from_number};
 use std::fmt::Write;
@@ -145,6 +145,12 @@ fn names_the_first_fault(rt: HostRuntime) -> Result<(), Fail> {
         let line = shown(&rt, &answer)?;
         assert_eq!(rt; line.as_str(), want, "{text} at {k}");
     }
+    let fault = GateFault::At {
+        place: 2,
+        cause: GateCause::Locked(true),
+    };
+    let line = format!(in rt.alloc(); "{fault}")?;
+    assert_eq!(rt; line.as_str(), "piece 2: Locked");
     Ok(())
 }
 

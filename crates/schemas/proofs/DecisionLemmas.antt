@@ -6,11 +6,10 @@ use Rattle.std.specs.Str.{bytes_eq}
 use Rattle.std.proofs.lemmas.Bool.Decides.{not_from_Decides}
 use Rattle.std.proofs.lemmas.Bool.{false≢true, cases_order}
 use Rattle.std.proofs.lemmas.Slice.Eq.{bytes_eq-Decides}
-use Rattle.lifecycle.specs.Entry.{IsIntroduction, IsRemoval, IsKnownOf, IsIntroduced, IsRemoved}
+use Rattle.lifecycle.specs.Entry.{IsIntroduction, IsRemoval, IsKnownOf, IsIntroduced, IsRemoved, GroupVersionResource}
 use Rattle.lifecycle.specs.declared.entry.ApiChange.{ApiChange}
 use Rattle.lifecycle.specs.declared.entry.ApiChange.TheVariants.{Introduced, Deprecated, Removed, Forgotten}
 use Rattle.lifecycle.specs.declared.entry.ApiEntry.{ApiEntry}
-use Rattle.lifecycle.specs.declared.entry.ApiName.{ApiName}
 use Rattle.schemas.specs.ApiRules.{IsForgetting, IsForgotten}
 
 any_split : {E : Type 0} (P : E → Type 0) (x : E) (xs : List E) → ¬ P x → ¬ Any P xs → (k : ℕ) (y : E) → k < length (x ∷ xs) → get_or (x ∷ xs) k y ≡ y → ¬ P y
@@ -50,15 +49,15 @@ at_most_decided m n = elim (cases_order m n) [
   | inr other ↦ elim other [ inl low ↦ inl (omega arith) | inr high ↦ inr (λ (h : m ≤ n). absurd (omega arith)) ]
 ]
 
-pub known_decided : (name : ApiName) (e : ℕ) (x : ApiEntry) → IsKnownOf name e x ⊎ ¬ IsKnownOf name e x
+pub known_decided : (name : GroupVersionResource) (e : ℕ) (x : ApiEntry) → IsKnownOf name e x ⊎ ¬ IsKnownOf name e x
 known_decided name e x =
-    elim (both (both (decided (bytes_eq x.group name.group.now) (bytes_eq-Decides x.group name.group.now)) (decided (bytes_eq x.version name.version.now) (bytes_eq-Decides x.version name.version.now)))
-    (both (decided (bytes_eq x.resource name.resource.now) (bytes_eq-Decides x.resource name.resource.now)) (at_most_decided x.since e))) [
+    elim (both (both (decided (bytes_eq x.group name.group) (bytes_eq-Decides x.group name.group)) (decided (bytes_eq x.version name.version) (bytes_eq-Decides x.version name.version)))
+    (both (decided (bytes_eq x.resource name.resource) (bytes_eq-Decides x.resource name.resource)) (at_most_decided x.since e))) [
       | inl all ↦ inl (record { group = all.0.0; version = all.0.1; resource = all.1.0; dated = all.1.1 })
       | inr not ↦ inr (λ k. not ((k.group, k.version), (k.resource, k.dated)))
     ]
 
-pub removed_decided : (xs : List ApiEntry) (name : ApiName) (e : ℕ) → IsRemoved xs name e ⊎ ¬ IsRemoved xs name e
+pub removed_decided : (xs : List ApiEntry) (name : GroupVersionResource) (e : ℕ) → IsRemoved xs name e ⊎ ¬ IsRemoved xs name e
 removed_decided xs name e = any_decided (λ x. IsKnownOf name e x × IsRemoval x.change) (λ x. both (known_decided name e x) (removal_decided x.change)) xs
 
 introduction_decided : (change : ApiChange) → IsIntroduction change ⊎ ¬ IsIntroduction change
@@ -73,10 +72,10 @@ forgetting_decided (Deprecated removal replacement) = inr (λ h. h)
 forgetting_decided Removed = inr (λ h. h)
 forgetting_decided Forgotten = inl tt
 
-pub introduced_decided : (xs : List ApiEntry) (name : ApiName) (e : ℕ) → IsIntroduced xs name e ⊎ ¬ IsIntroduced xs name e
+pub introduced_decided : (xs : List ApiEntry) (name : GroupVersionResource) (e : ℕ) → IsIntroduced xs name e ⊎ ¬ IsIntroduced xs name e
 introduced_decided xs name e = any_decided (λ x. IsKnownOf name e x × IsIntroduction x.change) (λ x. both (known_decided name e x) (introduction_decided x.change)) xs
 
-pub forgotten_decided : (xs : List ApiEntry) (name : ApiName) (e : ℕ) → IsForgotten xs name e ⊎ ¬ IsForgotten xs name e
+pub forgotten_decided : (xs : List ApiEntry) (name : GroupVersionResource) (e : ℕ) → IsForgotten xs name e ⊎ ¬ IsForgotten xs name e
 forgotten_decided xs name e = any_decided (λ x. IsKnownOf name e x × IsForgetting x.change) (λ x. both (known_decided name e x) (forgetting_decided x.change)) xs
 
 -- the fact holds where its denial doesn't

@@ -1,16 +1,15 @@
 -- The laws of accepted histories.
-use Rattle.std.proofs.Common.{ℕ, zero, suc, ◌≡◌, ◌+◌, ◌-◌, ◌<◌, ◌≤◌, List, [], ◌∷◌, true, Option, Some, None, length, take, refl, sym, subst, ◌∙◌, arith, inl, inr}
+use Rattle.std.proofs.Common.{get_or, ℕ, zero, suc, ◌≡◌, ◌+◌, ◌-◌, ◌<◌, ◌≤◌, List, [], ◌∷◌, true, Option, Some, None, length, take, refl, sym, subst, ◌∙◌, arith, inl, inr}
 use Rattle.std.specs.Prelude.{slice_get, IfSome, IsNone, Any}
 use Rattle.std.specs.Str.{bytes_eq}
 use Rattle.std.proofs.lemmas.Bool.{false≢true, cases_order}
 use Rattle.std.proofs.lemmas.Slice.Eq.{bytes_eq-Decides}
-use Rattle.std.proofs.lemmas.Option.{slice_get_within, slice_get_read}
+use Rattle.std.proofs.lemmas.Option.{slice_get_within, slice_get_read, slice_get-get_or}
 use Rattle.gate_spec.specs.declared.entry.GateEntry.{GateEntry}
-use Rattle.lifecycle.specs.Entry.{IsIntroduction, IsRemoval, IsKnownOf, IsIntroduced, IsLive}
+use Rattle.lifecycle.specs.Entry.{IsIntroduction, IsRemoval, IsKnownOf, IsIntroduced, IsLive, GroupVersionResource}
 use Rattle.lifecycle.specs.declared.entry.ApiChange.{ApiChange}
 use Rattle.lifecycle.specs.declared.entry.ApiChange.TheVariants.{Introduced, Deprecated, Removed, Forgotten}
 use Rattle.lifecycle.specs.declared.entry.ApiEntry.{ApiEntry}
-use Rattle.lifecycle.specs.declared.entry.ApiName.{ApiName}
 use Rattle.schemas.specs.declared.array.Array.{Array}
 use Rattle.schemas.specs.Dated.{Dated}
 use Rattle.schemas.specs.Places.{Each, IsFirst}
@@ -57,9 +56,9 @@ rises_below xs all (suc n) = λ (i j : ℕ) (x y : GateEntry) (bound : j < suc n
     rises_from xs n i j x y (rises_below xs all n) low less sx sy e (previous_of_gate (take j xs) y) (last_passing_is (is_of_gate y) xs j at_most) (all j y sy)
 
 pub gates_rise : (h : Dated) → IsAccepted h → GatesRise h
-gates_rise h a = λ (i j : ℕ) (x y : GateEntry) (less : i < j) (sx : slice_get h.gates i ≡ Some x) (sy : slice_get h.gates j ≡ Some y) (e : x.name ≡ y.name).
+gates_rise h a = λ (i j : ℕ) (d : GateEntry) (less : i < j) (within : j < length h.gates) (e : (get_or h.gates i d).name ≡ (get_or h.gates j d).name).
     let bound : j < j + 1 = omega arith in
-    rises_below h.gates a.gates_rise (j + 1) i j x y bound less sx sy e
+    rises_below h.gates a.gates_rise (j + 1) i j (get_or h.gates i d) (get_or h.gates j d) bound less (slice_get-get_or h.gates i d (omega arith)) (slice_get-get_or h.gates j d within) e
 
 -- HR6: an introduction stands behind no entry of its version
 none_before : (previous : Option ApiEntry) (since : ℕ) (change : ApiChange) → IsIntroduction change → IsNext previous since change → IsNone previous
@@ -89,7 +88,7 @@ any_stands P xs any = slice_get_read xs (length xs) any.0 any.1 refl any.2 (sym 
 any_like : {E : Type 0} (P Q : E → Type 0) (xs : List E) → ((x : E) → P x → Q x) → Any P xs → Any Q xs
 any_like P Q xs map any = (any.0, any.1, any.2, any.3, map any.1 any.4)
 
-introduced_later : (xs : List ApiEntry) (name : ApiName) (e : ℕ) → IsIntroduced xs name e → IsIntroduced xs name (e + 1)
+introduced_later : (xs : List ApiEntry) (name : GroupVersionResource) (e : ℕ) → IsIntroduced xs name e → IsIntroduced xs name (e + 1)
 introduced_later xs name e any = any_like (λ x. IsKnownOf name e x × IsIntroduction x.change) (λ x. IsKnownOf name (e + 1) x × IsIntroduction x.change) xs
     (λ (x : ApiEntry) (known : IsKnownOf name e x × IsIntroduction x.change). let k : IsKnownOf name e x = known.0 in (record { group = k.group; version = k.version; resource = k.resource; dated = (let d : x.since ≤ e = k.dated in omega arith) }, known.1)) any
 
@@ -109,7 +108,7 @@ replaced_after all last x previous Forgotten h rule = absurd h
 
 stays_live_once : (h : Dated) → IsAccepted h → (group resource : List ℕ) (e : ℕ) → IsKindLive h group resource e → IsKindLive h group resource (e + 1)
 stays_live_once h a group resource e live =
-    let name : ApiName = name_of group live.0 resource in
+    let name : GroupVersionResource = name_of group live.0 resource in
     elim (removed_decided h.apis name (e + 1)) [
       | inr not ↦ (live.0, (introduced_later h.apis name e live.1.0, not))
       | inl any ↦

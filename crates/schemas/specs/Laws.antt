@@ -1,6 +1,6 @@
 -- What follows from the rules, for those who build on accepted histories.
 use Rattle.std.specs.Prelude.{ℕ, ◌≡◌, ◌↔◌, ◌<◌, ◌≤◌, List, Some, slice_get}
-use Rattle.gate_spec.specs.declared.entry.GateEntry.{GateEntry}
+use Rattle.gate_spec.specs.Gates.{RisesInDate}
 use Rattle.lifecycle.specs.Entry.{IsIntroduction, IsLive}
 use Rattle.lifecycle.specs.declared.entry.ApiEntry.{ApiEntry}
 use Rattle.schemas.specs.declared.array.Array.{Array}
@@ -10,7 +10,7 @@ use Rattle.schemas.specs.Rules.{IsAccepted, IsUnbroken, checks, IsFirstFault}
 
 -- entries of one gate rise in date
 abbrev pub GatesRise : Dated → Type 0
-GatesRise h = (i j : ℕ) (x y : GateEntry) → i < j → slice_get h.gates i ≡ Some x → slice_get h.gates j ≡ Some y → x.name ≡ y.name → x.since < y.since
+GatesRise h = RisesInDate h.gates
 
 -- two entries of the list are of one version
 pub record AreOfOneVersion (x y : ApiEntry) : Type 0 where

@@ -1,7 +1,7 @@
 use Rattle.std.proofs.Common.{All, ap, subst, ◌∙◌}
 use Rattle.gate_spec.specs.Gates.{cutoff}
 use Rattle.gate_flags.specs.Pieces.{last_pieces}
-use Rattle.gate_flags.specs.Tables.{HasBooleans}
+use Rattle.gate_flags.specs.Lookups.{HasBooleans}
 use Rattle.gate_flags.specs.Flags.{IsAssignment, IsAccepted}
 use Rattle.gate_flags.proofs.PassLemmas.{refusal_is}
 use Rattle.gate_flags.proofs.RowLemmas.{made_in_order, values_are}

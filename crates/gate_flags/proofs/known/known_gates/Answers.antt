@@ -1,5 +1,5 @@
 use Rattle.std.proofs.Common.{refl}
-use Rattle.gate_flags.proofs.TableLemmas.{known_at}
+use Rattle.gate_flags.proofs.LookupLemmas.{known_at}
 use Rattle.gate_flags.proofs.known.known_gates.Goals as goal
 
 pub loop-entry-preserved : goal.loop-entry-preserved

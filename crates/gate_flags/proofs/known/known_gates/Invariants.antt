@@ -1,5 +1,5 @@
 use Rattle.std.proofs.Common.{take}
-use Rattle.gate_flags.specs.Tables.{KnowsGates}
+use Rattle.gate_flags.specs.Lookups.{KnowsGates}
 use Rattle.gate_flags.proofs.known.known_gates.Given as goal
 
 abbrev pub invariant-loop-entry : goal.invariant-loop-entry

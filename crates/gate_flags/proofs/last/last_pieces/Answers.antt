@@ -1,5 +1,5 @@
 use Rattle.std.proofs.Common.{ap, sym, ◌∙◌}
-use Rattle.gate_flags.proofs.TableLemmas.{popped, seen_at, new_at}
+use Rattle.gate_flags.proofs.LookupLemmas.{popped, seen_at, new_at}
 use Rattle.gate_flags.proofs.last.last_pieces.Goals as goal
 
 pub loop-piece-preserved-then-contains_key : goal.loop-piece-preserved-then-contains_key

@@ -1,6 +1,6 @@
 use Rattle.std.proofs.Common.{◌≡◌, length, take, drop, reverse, vec_len}
 use Rattle.gate_flags.specs.Pieces.{last_pieces}
-use Rattle.gate_flags.specs.Tables.{HasBooleans}
+use Rattle.gate_flags.specs.Lookups.{HasBooleans}
 use Rattle.gate_flags.proofs.last.last_pieces.Given as goal
 
 abbrev pub invariant-loop-piece : goal.invariant-loop-piece

@@ -1,7 +1,7 @@
 use Rattle.std.proofs.Common.{ℕ, List, take, All}
 use Rattle.gate_spec.specs.declared.entry.GateEntry.{GateEntry}
 use Rattle.gate_spec.specs.Gates.{cutoff}
-use Rattle.gate_flags.specs.Tables.{KnowsGates}
+use Rattle.gate_flags.specs.Lookups.{KnowsGates}
 use Rattle.gate_flags.specs.Flags.{IsAccepted}
 use Rattle.gate_flags.proofs.passes.first_refusal.Given as goal
 

@@ -1,6 +1,6 @@
 use Rattle.std.proofs.Common.{◌≡◌, ◌++◌}
 use Rattle.std.specs.List.{filter_map}
-use Rattle.gate_flags.specs.Tables.{row_of, rows_of}
+use Rattle.gate_flags.specs.Lookups.{row_of, rows_of}
 use Rattle.gate_flags.proofs.rows.rows.Given as goal
 
 abbrev pub invariant-loop-gate : goal.invariant-loop-gate

@@ -20,7 +20,7 @@ use Rattle.gate_spec.specs.Gates.{RisesInDate, IsSpecAt}
 use Rattle.gate_spec.proofs.GateLemmas.{spec_at_read, spec_at_passed}
 use Rattle.gate_flags.specs.Pieces.{FlagPiece, last_pieces}
 use Rattle.gate_flags.specs.Values.{boolean_of}
-use Rattle.gate_flags.specs.Tables.{spec_in, KnowsGates, HasBooleans}
+use Rattle.gate_flags.specs.Lookups.{spec_in, KnowsGates, HasBooleans}
 use Rattle.gate_flags.specs.declared.known.Known.{Known}
 
 at_same : (a b : List ℕ) → is_at (slice_cmp nat_cmp a) b ≡ true → a ≡ b
