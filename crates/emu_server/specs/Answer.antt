@@ -1,9 +1,16 @@
 -- What the program is to answer to words and the bytes of a history: a status, and the text that is written with it. The first cause that
 -- holds decides: the words, the history's text, the history's rules, the options in their order.
-use Rattle.std.specs.Prelude.{ℕ, ◌≡◌, ◌≢◌, ◌⊎◌, List, [], ◌∷◌, ◌++◌, option_map}
+use Rattle.std.specs.Prelude.{ℕ, ◌≡◌, ◌≢◌, ◌⊎◌, List, [], ◌∷◌, ◌++◌, unwrap_or}
 use Rattle.std.specs.declared.option.Option.{Option}
 use Rattle.serde_json.specs.Data.{Data}
 use Rattle.serde_json.specs.Written.{compact_text}
+use Rattle.gate_flags.specs.Flags.{IsFeatureText, IsTextFault}
+use Rattle.gate_flags.specs.Pieces.{pieces}
+use Rattle.gate_flags.specs.Values.{Gates, AreGateValues}
+use Rattle.gate_flags.specs.declared.fault.GateCause.{GateCause}
+use Rattle.gate_flags.specs.declared.fault.GateFault.TheVariants.{At}
+use Rattle.gate_spec.specs.Gates.{cutoff}
+use Rattle.gate_spec.specs.declared.entry.GateEntry.{GateEntry}
 use Rattle.lifecycle.specs.declared.entry.ApiEntry.{ApiEntry}
 use Rattle.schemas.specs.Dated.{Dated}
 use Rattle.schemas.specs.Rules.{IsAccepted, IsFirstFault, checks, first_of, last_of}
@@ -15,11 +22,11 @@ use Rattle.emu_server.specs.declared.emulated.VersionFault.{VersionFault}
 use Rattle.emu_server.specs.declared.status.Status.{Status}
 use Rattle.emu_server.specs.declared.status.Status.TheVariants as status
 use Rattle.emu_server.specs.declared.words.Command.{Command}
-use Rattle.emu_server.specs.declared.words.Command.TheVariants.{Discover, Check}
+use Rattle.emu_server.specs.declared.words.Command.TheVariants.{Discover, Gates as GatesCommand, Check}
 use Rattle.emu_server.specs.Emulated.{IsEmulated, IsRefusedVersion}
-use Rattle.emu_server.specs.Lines.{usage_line, reading_line, rule_line, accepted_line, version_line}
+use Rattle.emu_server.specs.Lines.{usage_line, reading_line, rule_line, accepted_line, version_line, gate_lines, gate_fault_line}
 use Rattle.emu_server.specs.Page.{IsGroupList}
-use Rattle.emu_server.specs.Words.{AsksFor}
+use Rattle.emu_server.specs.Words.{AsksFor, text_of}
 
 -- the bytes are no history document, and this line says why
 pub record IsReadingRefusal (bytes line : List ℕ) : Type 0 where
@@ -40,11 +47,28 @@ pub record IsRuleRefusal (history : Dated) (line : List ℕ) : Type 0 where
 abbrev pub IsGroupListLine : List ApiEntry → ℕ → List ℕ → Type 0
 IsGroupListLine entries e text = (tree : Data) × IsGroupList entries e tree × (text ≡ compact_text tree ++ 10 ∷ [])
 
+-- the release to emulate is refused, and this line says why
+abbrev pub IsVersionRefusal : Option (List ℕ) → Dated → List ℕ → Type 0
+IsVersionRefusal emulated h text = (f : VersionFault) × IsRefusedVersion (first_of h) (last_of h) emulated f × (text ≡ version_line (first_of h) (last_of h) f)
+
 -- what `discover` is to answer on an accepted history
 abbrev pub IsListing : Option (List ℕ) → Dated → Status → List ℕ → Type 0
 IsListing emulated h status.Ok text = (e : ℕ) × IsEmulated (first_of h) (last_of h) emulated e × IsGroupListLine h.apis e text
-IsListing emulated h status.Flags text = (f : VersionFault) × IsRefusedVersion (first_of h) (last_of h) emulated f × (text ≡ version_line (first_of h) (last_of h) f)
+IsListing emulated h status.Flags text = IsVersionRefusal emulated h text
 IsListing emulated h _ text = ⊥
+
+-- what `gates` is to answer for a release: a line for each gate that its tables know, set by the text; or why it refuses the text
+abbrev pub IsGateListingAt : List GateEntry → ℕ → List ℕ → Status → List ℕ → Type 0
+IsGateListingAt entries e features status.Ok text =
+    (values : Gates) × IsFeatureText (cutoff entries e) features × AreGateValues (cutoff entries e) (pieces features) values × (text ≡ gate_lines values.rows)
+IsGateListingAt entries e features status.Flags text = (place : ℕ) × (cause : GateCause) × IsTextFault entries e features (At place cause) × (text ≡ gate_fault_line place cause)
+IsGateListingAt entries e features _ text = ⊥
+
+-- what `gates` is to answer on an accepted history, where no text stands for the empty one
+abbrev pub IsGateListing : Option (List ℕ) → Option (List ℕ) → Dated → Status → List ℕ → Type 0
+IsGateListing emulated features h status.Flags text =
+    IsVersionRefusal emulated h text ⊎ ((e : ℕ) × IsEmulated (first_of h) (last_of h) emulated e × IsGateListingAt h.gates e (unwrap_or features []) status.Flags text)
+IsGateListing emulated features h s text = (e : ℕ) × IsEmulated (first_of h) (last_of h) emulated e × IsGateListingAt h.gates e (unwrap_or features []) s text
 
 -- what `check` is to answer on an accepted history
 abbrev pub IsAcceptance : Dated → Status → List ℕ → Type 0
@@ -53,7 +77,8 @@ IsAcceptance h _ text = ⊥
 
 -- what a command is to answer on an accepted history
 abbrev pub IsWork : Command → Dated → Status → List ℕ → Type 0
-IsWork (Discover emulated) h s text = IsListing (option_map (λ t. t.now) emulated) h s text
+IsWork (Discover emulated) h s text = IsListing (text_of emulated) h s text
+IsWork (GatesCommand emulated features) h s text = IsGateListing (text_of emulated) (text_of features) h s text
 IsWork Check h s text = IsAcceptance h s text
 
 -- what a command is to answer on a history

@@ -1,14 +1,20 @@
 //! What the program answers to a command and the bytes of a history.
-ghost use Rattle.std.specs.Prelude.{◌≡◌, ◌≢◌, ◌⊎◌, IfOk, string_bytes, option_map};
-ghost use Rattle.emu_server.specs.Answer.{IsGroupListLine, IsListing, IsAcceptance, IsWork, IsAnswerOn, IsAnswerTo};
-ghost use Rattle.emu_server.specs.Lines.{reading_line, rule_line};
+ghost use Rattle.std.specs.Prelude.{◌≡◌, [], IfOk, string_bytes, unwrap_or};
+ghost use Rattle.emu_server.specs.Answer.{IsGroupListLine, IsListing, IsGateListingAt, IsGateListing, IsAcceptance, IsWork, IsAnswerOn, IsAnswerTo};
+ghost use Rattle.emu_server.specs.Lines.{reading_line, rule_line, version_line, gate_lines, gate_fault_line};
+ghost use Rattle.gate_spec.specs.Gates.{RisesInDate};
+ghost use Rattle.emu_server.specs.Words.{text_of};
+ghost use Rattle.schemas.specs.Rules.{first_of, last_of};
 
 use crate::discovery::group_list;
-use crate::emulated::emulated_release;
+use crate::emulated::{VersionFault, emulated_release};
+use crate::gates::{gate_refusal, listed_gates};
 use crate::lines::{acceptance, reading_refusal, rule_refusal, version_refusal};
 use crate::status::Status;
 use crate::words::Command;
 use basis::Memory;
+use gate_flags::{GateCause, GateFault, GateValues, gate_values};
+use gate_spec::GateEntry;
 use history_reader::{HistoryFault, read_history};
 use history_rules::{CheckFault, check};
 use lifecycle::ApiEntry;
@@ -36,9 +42,28 @@ fn group_list_line(alloc: Global, entries: &[ApiEntry], e: Minor) -> Result<Stri
     Ok(text)
 }
 
+/// Why the release to emulate is refused.
+fn refused_version(
+    alloc: Global,
+    accepted: &Accepted,
+    fault: VersionFault,
+) -> Result<Answer, Memory>
+    ensures { IfOk result (λ a. (a.status ≡ Status.Flags) × (string_bytes a.text ≡ version_line (first_of accepted.now) (last_of accepted.now) fault)) }
+{
+    let text = version_refusal(alloc, accepted, fault)?;
+    Ok(Answer {
+        status: Status::Flags,
+        text,
+    })
+}
+
 /// The group list of a release, or why the release is refused.
-fn listing(alloc: Global, emulated: Option<&str>, accepted: &Accepted) -> Result<Answer, Memory>
-    ensures { IfOk result (λ a. IsListing (option_map (λ t. t.now) emulated.entry) accepted.now a.status (string_bytes a.text)) }
+fn listing(
+    alloc: Global,
+    emulated: Option<&str>,
+    accepted: &Accepted,
+) -> Result<Answer, Memory>
+    ensures { IfOk result (λ a. IsListing (text_of emulated.entry) accepted.now a.status (string_bytes a.text)) }
 {
     match emulated_release(emulated, accepted) {
         Ok(e) => {
@@ -48,13 +73,76 @@ fn listing(alloc: Global, emulated: Option<&str>, accepted: &Accepted) -> Result
                 text,
             })
         }
-        Err(fault) => {
-            let text = version_refusal(alloc, accepted, fault)?;
-            Ok(Answer {
-                status: Status::Flags,
-                text,
-            })
+        Err(fault) => refused_version(alloc, accepted, fault),
+    }
+}
+
+/// Which piece of a feature gate text is refused, and why.
+fn refused_piece(alloc: Global, place: u64, cause: GateCause) -> Result<Answer, Memory>
+    ensures { IfOk result (λ a. (a.status ≡ Status.Flags) × (string_bytes a.text ≡ gate_fault_line place cause)) }
+{
+    match gate_refusal(alloc, place, cause) {
+        Ok(text) => Ok(Answer {
+            status: Status::Flags,
+            text,
+        }),
+        Err(_) => Err(Memory),
+    }
+}
+
+/// The lines of the gates with these values.
+fn listed(alloc: Global, values: &GateValues) -> Result<Answer, Memory>
+    ensures { IfOk result (λ a. (a.status ≡ Status.Ok) × (string_bytes a.text ≡ gate_lines values.now.rows)) }
+{
+    let text = listed_gates(alloc, values)?;
+    Ok(Answer {
+        status: Status::Ok,
+        text,
+    })
+}
+
+/// The gates of a release, set by a text, or why it refuses the text.
+fn gate_listing_at(
+    alloc: Global,
+    entries: &[GateEntry],
+    e: Minor,
+    features: &str,
+) -> Result<Answer, Memory>
+    requires { RisesInDate entries.now }
+    ensures { IfOk result (λ a. IsGateListingAt entries.now e features.now a.status (string_bytes a.text)) }
+{
+    match gate_values(alloc, entries, e, features.as_bytes()) {
+        Ok(values) => listed(alloc, &values),
+        Err(GateFault::Memory) => Err(Memory),
+        Err(GateFault::At { place, cause }) => refused_piece(alloc, place, cause),
+    }
+}
+
+/// The gates of a release, set by a text, or why the release or the text is refused.
+fn gate_listing(
+    alloc: Global,
+    emulated: Option<&str>,
+    features: Option<&str>,
+    accepted: &Accepted,
+) -> Result<Answer, Memory>
+    ensures { IfOk result (λ a. IsGateListing (text_of emulated.entry) (text_of features.entry) accepted.now a.status (string_bytes a.text)) }
+{
+    match emulated_release(emulated, accepted) {
+        Ok(e) => {
+            let entries = accepted.history().gates.items();
+            gate_listing_at(alloc, entries, e, text_or_empty(features))
         }
+        Err(fault) => refused_version(alloc, accepted, fault),
+    }
+}
+
+/// The text, or the empty one.
+fn text_or_empty(text: Option<&str>) -> &str
+    ensures { result.now ≡ unwrap_or (text_of text.entry) [] }
+{
+    match text {
+        Some(text) => text,
+        None => "",
     }
 }
 
@@ -75,6 +163,7 @@ fn work(alloc: Global, command: Command<'_>, accepted: &Accepted) -> Result<Answ
 {
     match command {
         Command::Discover { emulated } => listing(alloc, emulated, accepted),
+        Command::Gates { emulated, features } => gate_listing(alloc, emulated, features, accepted),
         Command::Check => approval(alloc, accepted),
     }
 }

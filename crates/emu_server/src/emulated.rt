@@ -1,8 +1,9 @@
 //! The release that a command emulates.
-ghost use Rattle.std.specs.Prelude.{◌↔◌, IsTrue, IfOk, IfErr, option_map};
+ghost use Rattle.std.specs.Prelude.{◌↔◌, IsTrue, IfOk, IfErr};
 ghost use Rattle.minor_version.specs.Ranges.{IsEmulable};
 ghost use Rattle.schemas.specs.Rules.{first_of, last_of};
 ghost use Rattle.emu_server.specs.Emulated.{IsEmulated, IsRefusedVersion};
+ghost use Rattle.emu_server.specs.Words.{text_of};
 
 use minor_version::{Minor, parse};
 use schemas::Accepted;
@@ -22,8 +23,8 @@ fn is_emulable(accepted: &Accepted, e: Minor) -> bool
 
 /// The release that the option names, or the last one.
 pub fn emulated_release(emulated: Option<&str>, accepted: &Accepted) -> Result<Minor, VersionFault>
-    ensures ok { IfOk result (IsEmulated (first_of accepted.now) (last_of accepted.now) (option_map (λ t. t.now) emulated.entry)) }
-    ensures refused { IfErr result (IsRefusedVersion (first_of accepted.now) (last_of accepted.now) (option_map (λ t. t.now) emulated.entry)) }
+    ensures ok { IfOk result (IsEmulated (first_of accepted.now) (last_of accepted.now) (text_of emulated.entry)) }
+    ensures refused { IfErr result (IsRefusedVersion (first_of accepted.now) (last_of accepted.now) (text_of emulated.entry)) }
 {
     let Some(text) = emulated else {
         return Ok(accepted.last());
