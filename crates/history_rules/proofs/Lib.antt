@@ -1,2 +1,3 @@
 pub mod NameLemmas
 pub mod LinkLemmas
+pub mod DateLemmas

@@ -1,3 +1,5 @@
 pub mod Fault
 pub mod NameMap
 pub mod Previous
+pub mod Dates
+pub mod DatesFields

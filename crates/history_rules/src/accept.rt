@@ -6,6 +6,7 @@ use crate::api_rules::{
     first_early_forgetting, first_late_api, first_mixed_kind, first_out_of_order,
     first_unfair_deprecation, first_unplanned,
 };
+use crate::dates::Dates;
 use crate::fault::{CheckFault, broken};
 use crate::gate_rules::{
     first_late_gate, first_not_rising, first_unfit_spec, first_unripe_removal,
@@ -42,6 +43,9 @@ fn check_rules(alloc: Global, h: &History) -> Result<(), CheckFault>
     let Ok(previous_apis) = link_versions(alloc, apis) else {
         return Err(CheckFault::Memory);
     };
+    let Ok(all) = Dates::new(alloc, apis) else {
+        return Err(CheckFault::Memory);
+    };
     if let Some(index) = first_late_gate(last, gates) {
         return Err(broken(2, Array::Gate, index));
     }
@@ -63,13 +67,13 @@ fn check_rules(alloc: Global, h: &History) -> Result<(), CheckFault>
     if let Some(index) = first_mixed_kind(apis) {
         return Err(broken(7, Array::Api, index));
     }
-    if let Some(index) = first_unfair_deprecation(apis) {
+    if let Some(index) = first_unfair_deprecation(&all, apis) {
         return Err(broken(8, Array::Api, index));
     }
-    if let Some(index) = first_unplanned(last, apis, &previous_apis) {
+    if let Some(index) = first_unplanned(&all, last, apis, &previous_apis) {
         return Err(broken(9, Array::Api, index));
     }
-    if let Some(index) = first_early_forgetting(apis, &previous_apis) {
+    if let Some(index) = first_early_forgetting(&all, apis, &previous_apis) {
         return Err(broken(10, Array::Api, index));
     }
     Ok(())

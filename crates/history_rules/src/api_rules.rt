@@ -1,13 +1,13 @@
 //! The rules on versions of resources: for each, the number of the first entry that breaks it.
 ghost use Rattle.std.specs.Prelude.{◌≡◌, ◌↔◌, [], IsTrue, codes, length};
 ghost use Rattle.std.specs.Option.{option_copied};
-ghost use Rattle.lifecycle.specs.Entry.{IsIntroduced, IsRemoved};
 ghost use Rattle.lifecycle.specs.Stability.{rank_of};
 ghost use Rattle.schemas.specs.Places.{FindsFirst};
 ghost use Rattle.schemas.specs.ApiRules.{previous_of_version, name_of, notice_of, AgreeInKind, DifferInKind, KeepKindsApart, HasLawfulName, IsNext, StandsInOrder, NamesItsKind, IsFairBetween, IsFairDeprecation, IsFairChange, DeprecatesFairly, IsPlanned, IsKept, KeepsPlan, IsForgotten, IsInFavourOf, IsLateAfter, AreForgottenFirst, IsForgottenLate, ForgetsLate};
 ghost use Rattle.schemas.specs.Rules.{IsApiBy};
 ghost use Rattle.history_rules.specs.Previous.{AreLinked};
 
+use crate::dates::Dates;
 use lifecycle::{ApiChange, ApiEntry, Level, version_word};
 use minor_version::{Minor, Text};
 
@@ -172,59 +172,11 @@ fn notice(level: Level) -> u16
     }
 }
 
-fn is_introduced(
-    entries: &[ApiEntry],
-    group: &Text,
-    version: &Text,
-    resource: &Text,
-    e: Minor,
-) -> bool
-    ensures { IsTrue result ↔ IsIntroduced entries.now (name_of group.now version.now resource.now) e }
-{
-    entries.iter().any(|y| {
-        y.group == *group
-            && y.version == *version
-            && y.resource == *resource
-            && y.since <= e
-            && matches!(y.change, ApiChange::Introduced { .. })
-    })
-}
-
-fn is_removed(entries: &[ApiEntry], group: &Text, version: &Text, resource: &Text, e: Minor) -> bool
-    ensures { IsTrue result ↔ IsRemoved entries.now (name_of group.now version.now resource.now) e }
-{
-    entries.iter().any(|y| {
-        y.group == *group
-            && y.version == *version
-            && y.resource == *resource
-            && y.since <= e
-            && matches!(y.change, ApiChange::Removed)
-    })
-}
-
-fn is_forgotten(
-    entries: &[ApiEntry],
-    group: &Text,
-    version: &Text,
-    resource: &Text,
-    e: Minor,
-) -> bool
-    ensures { IsTrue result ↔ IsForgotten entries.now (name_of group.now version.now resource.now) e }
-{
-    entries.iter().any(|y| {
-        y.group == *group
-            && y.version == *version
-            && y.resource == *resource
-            && y.since <= e
-            && matches!(y.change, ApiChange::Forgotten)
-    })
-}
-
-fn is_fair_between(
-    all: &[ApiEntry],
-    entry: &ApiEntry,
+fn is_fair_between<'a>(
+    all: &Dates<'a>,
+    entry: &'a ApiEntry,
     removal: Minor,
-    replacement: &Text,
+    replacement: &'a Text,
     own: Level,
     other: Level,
 ) -> bool
@@ -233,14 +185,19 @@ fn is_fair_between(
     entry.since.number() + notice(own) <= removal.number()
         && entry.version != *replacement
         && rank(other) <= rank(own)
-        && is_introduced(all, &entry.group, replacement, &entry.resource, entry.since)
+        && all.is_introduced(
+            entry.group.bytes(),
+            replacement.bytes(),
+            entry.resource.bytes(),
+            entry.since,
+        )
 }
 
-fn is_fair_deprecation(
-    all: &[ApiEntry],
-    entry: &ApiEntry,
+fn is_fair_deprecation<'a>(
+    all: &Dates<'a>,
+    entry: &'a ApiEntry,
     removal: Minor,
-    replacement: &Text,
+    replacement: &'a Text,
 ) -> bool
     ensures { IsTrue result ↔ IsFairDeprecation all.now entry.now removal replacement.now }
 {
@@ -253,7 +210,7 @@ fn is_fair_deprecation(
     is_fair_between(all, entry, removal, replacement, own.level, other.level)
 }
 
-fn is_fair(all: &[ApiEntry], entry: &ApiEntry) -> bool
+fn is_fair<'a>(all: &Dates<'a>, entry: &'a ApiEntry) -> bool
     ensures { IsTrue result ↔ IsFairChange all.now entry.now entry.now.change }
 {
     match &entry.change {
@@ -266,18 +223,18 @@ fn is_fair(all: &[ApiEntry], entry: &ApiEntry) -> bool
 }
 
 /// The first deprecation that leaves too little time, or whose replacement doesn't stand in for the version (HR8).
-pub fn first_unfair_deprecation(entries: &[ApiEntry]) -> Option<u64>
-    ensures { FindsFirst (DeprecatesFairly entries.now) entries.now result }
+pub fn first_unfair_deprecation<'a>(all: &Dates<'a>, entries: &'a [ApiEntry]) -> Option<u64>
+    ensures { FindsFirst (DeprecatesFairly all.now) entries.now result }
 {
     for (i, entry) in entries.iter().enumerate() {
-        if !is_fair(entries, entry) {
+        if !is_fair(all, entry) {
             return Some(i as u64 + 1);
         }
     }
     None
 }
 
-fn is_planned(all: &[ApiEntry], entry: &ApiEntry, plan: &ApiChange) -> bool
+fn is_planned<'a>(all: &Dates<'a>, entry: &'a ApiEntry, plan: &'a ApiChange) -> bool
     ensures { IsTrue result ↔ IsPlanned all.now entry.now plan.now }
 {
     match plan {
@@ -286,19 +243,40 @@ fn is_planned(all: &[ApiEntry], entry: &ApiEntry, plan: &ApiChange) -> bool
             replacement,
         } => {
             entry.since == *removal
-                && is_introduced(all, &entry.group, replacement, &entry.resource, entry.since)
-                && !is_removed(all, &entry.group, replacement, &entry.resource, entry.since)
+                && all.is_introduced(
+                    entry.group.bytes(),
+                    replacement.bytes(),
+                    entry.resource.bytes(),
+                    entry.since,
+                )
+                && !all.is_removed(
+                    entry.group.bytes(),
+                    replacement.bytes(),
+                    entry.resource.bytes(),
+                    entry.since,
+                )
         }
         _ => false,
     }
 }
 
-fn is_kept(all: &[ApiEntry], last: Minor, previous: Option<&ApiEntry>, entry: &ApiEntry) -> bool
+fn is_kept<'a>(
+    all: &Dates<'a>,
+    last: Minor,
+    previous: Option<&'a ApiEntry>,
+    entry: &'a ApiEntry,
+) -> bool
     ensures { IsTrue result ↔ IsKept all.now last (option_copied previous.entry) entry.now entry.now.change }
 {
     match &entry.change {
         ApiChange::Deprecated { removal, .. } => {
-            *removal > last || is_removed(all, &entry.group, &entry.version, &entry.resource, last)
+            *removal > last
+                || all.is_removed(
+                    entry.group.bytes(),
+                    entry.version.bytes(),
+                    entry.resource.bytes(),
+                    last,
+                )
         }
         ApiChange::Removed => match previous {
             None => false,
@@ -309,16 +287,17 @@ fn is_kept(all: &[ApiEntry], last: Minor, previous: Option<&ApiEntry>, entry: &A
 }
 
 /// The first removal that isn't as planned, or deprecation whose planned removal is missing (HR9).
-pub fn first_unplanned(
+pub fn first_unplanned<'a>(
+    all: &Dates<'a>,
     last: Minor,
-    entries: &[ApiEntry],
-    previous: &[Option<&ApiEntry>],
+    entries: &'a [ApiEntry],
+    previous: &[Option<&'a ApiEntry>],
 ) -> Option<u64>
     requires { AreLinked previous_of_version entries.now (length entries.now) previous.now }
-    ensures { FindsFirst (KeepsPlan entries.now last) entries.now result }
+    ensures { FindsFirst (KeepsPlan all.now last) entries.now result }
 {
     for (i, entry) in entries.iter().enumerate() {
-        if !is_kept(entries, last, previous[i], entry) {
+        if !is_kept(all, last, previous[i], entry) {
             return Some(i as u64 + 1);
         }
     }
@@ -336,13 +315,35 @@ fn is_in_favour_of(entry: &ApiEntry, y: &ApiEntry) -> bool
     }
 }
 
-fn are_followers_forgotten(all: &[ApiEntry], entry: &ApiEntry) -> bool
+fn is_forgotten_before<'a>(all: &Dates<'a>, entry: &'a ApiEntry, y: &'a ApiEntry) -> bool
+    ensures { IsTrue result ↔ (IsInFavourOf entry.now y.now y.now.change → IsForgotten all.now (name_of y.now.group y.now.version y.now.resource) entry.now.since) }
+{
+    if is_in_favour_of(entry, y) {
+        is_forgotten_by(all, y, entry.since)
+    } else {
+        true
+    }
+}
+
+fn is_forgotten_by<'a>(all: &Dates<'a>, y: &'a ApiEntry, e: Minor) -> bool
+    ensures { IsTrue result ↔ IsForgotten all.now (name_of y.now.group y.now.version y.now.resource) e }
+{
+    let group = y.group.bytes();
+    let version = y.version.bytes();
+    let resource = y.resource.bytes();
+    all.is_forgotten(group, version, resource, e)
+}
+
+fn are_followers_forgotten<'a>(all: &Dates<'a>, entry: &'a ApiEntry) -> bool
     ensures { IsTrue result ↔ AreForgottenFirst all.now entry.now }
 {
-    all.iter().all(|y| {
-        !is_in_favour_of(entry, y)
-            || is_forgotten(all, &y.group, &y.version, &y.resource, entry.since)
-    })
+    let entries = all.entries();
+    for y in entries {
+        if !is_forgotten_before(all, entry, y) {
+            return false;
+        }
+    }
+    true
 }
 
 fn is_late(previous: Option<&ApiEntry>, entry: &ApiEntry) -> bool
@@ -358,19 +359,23 @@ fn is_late(previous: Option<&ApiEntry>, entry: &ApiEntry) -> bool
 }
 
 /// The first version that is forgotten too early (HR10).
-pub fn first_early_forgetting(entries: &[ApiEntry], previous: &[Option<&ApiEntry>]) -> Option<u64>
+pub fn first_early_forgetting<'a>(
+    all: &Dates<'a>,
+    entries: &'a [ApiEntry],
+    previous: &[Option<&'a ApiEntry>],
+) -> Option<u64>
     requires { AreLinked previous_of_version entries.now (length entries.now) previous.now }
-    ensures { FindsFirst (ForgetsLate entries.now) entries.now result }
+    ensures { FindsFirst (ForgetsLate all.now) entries.now result }
 {
     for (i, entry) in entries.iter().enumerate() {
-        if !forgets_late(entries, previous[i], entry) {
+        if !forgets_late(all, previous[i], entry) {
             return Some(i as u64 + 1);
         }
     }
     None
 }
 
-fn forgets_late(all: &[ApiEntry], previous: Option<&ApiEntry>, entry: &ApiEntry) -> bool
+fn forgets_late<'a>(all: &Dates<'a>, previous: Option<&'a ApiEntry>, entry: &'a ApiEntry) -> bool
     ensures { IsTrue result ↔ IsForgottenLate all.now (option_copied previous.entry) entry.now entry.now.change }
 {
     match &entry.change {

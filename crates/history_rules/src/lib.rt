@@ -4,6 +4,7 @@
 
 mod accept;
 mod api_rules;
+mod dates;
 mod fault;
 mod gate_rules;
 mod name_map;

@@ -123,9 +123,13 @@ IsInFavourOf x y _ = ⊥
 abbrev pub IsLateAfter : Option ApiEntry → ℕ → Type 0
 IsLateAfter previous since = IsSomeAnd previous (λ y. IsRemoval y.change × (y.since + 3 ≤ since))
 
+-- where y deprecates its version in favour of that of x, that version is forgotten not later than x is dated
+abbrev pub IsForgottenBefore : List ApiEntry → ApiEntry → ApiEntry → Type 0
+IsForgottenBefore all x y = IsInFavourOf x y y.change → IsForgotten all (name_of y.group y.version y.resource) x.since
+
 -- each version deprecated in favour of that of x is forgotten not later than x is dated
 abbrev pub AreForgottenFirst : List ApiEntry → ApiEntry → Type 0
-AreForgottenFirst all x = All (λ y. IsInFavourOf x y y.change → IsForgotten all (name_of y.group y.version y.resource) x.since) all
+AreForgottenFirst all x = All (IsForgottenBefore all x) all
 
 abbrev pub IsForgottenLate : List ApiEntry → Option ApiEntry → ApiEntry → ApiChange → Type 0
 IsForgottenLate all previous x Forgotten = IsLateAfter previous x.since × AreForgottenFirst all x

@@ -7,10 +7,10 @@ pub loop-i-init : goal.loop-i-init
 loop-i-init c = search rules
 
 pub returns-then-not-is_fair : goal.returns-then-not-is_fair
-returns-then-not-is_fair c = first_broken (DeprecatesFairly c.args.entries.now) c.args.entries.now c.loop-i.i c.index-entries-i.result c.loop-i-test.true c.index-entries-i.is c.loop-i.invariant (search rules)
+returns-then-not-is_fair c = first_broken (DeprecatesFairly c.args.all.now) c.args.entries.now c.loop-i.i c.index-entries-i.result c.loop-i-test.true c.index-entries-i.is c.loop-i.invariant (search rules)
 
 pub loop-i-preserved : goal.loop-i-preserved
-loop-i-preserved c = each_more (DeprecatesFairly c.args.entries.now) c.args.entries.now c.loop-i.i c.index-entries-i.result c.loop-i-test.true c.index-entries-i.is c.loop-i.invariant (search rules)
+loop-i-preserved c = each_more (DeprecatesFairly c.args.all.now) c.args.entries.now c.loop-i.i c.index-entries-i.result c.loop-i-test.true c.index-entries-i.is c.loop-i.invariant (search rules)
 
 pub returns : goal.returns
-returns c = each_whole (DeprecatesFairly c.args.entries.now) c.args.entries.now c.loop-i.i (omega arith) c.loop-i.invariant
+returns c = each_whole (DeprecatesFairly c.args.all.now) c.args.entries.now c.loop-i.i (omega arith) c.loop-i.invariant

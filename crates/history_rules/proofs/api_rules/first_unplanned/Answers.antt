@@ -10,12 +10,12 @@ pub loop-i-init : goal.loop-i-init
 loop-i-init c = search rules
 
 pub returns-then-not-is_kept : goal.returns-then-not-is_kept
-returns-then-not-is_kept c = first_broken (KeepsPlan c.args.entries.now c.args.last) c.args.entries.now c.loop-i.i c.index-entries-i.result c.loop-i-test.true c.index-entries-i.is c.loop-i.invariant
-    (subst (λ (o : Option ApiEntry). ¬ IsKept c.args.entries.now c.args.last o c.index-entries-i.result c.index-entries-i.result.change) (link_at previous_of_version c.args.entries.now c.args.previous.now c.loop-i.i c.index-entries-i.result c.index-previous-i.result c.requires c.loop-i-test.true c.index-entries-i.is c.index-previous-i.is) (search rules))
+returns-then-not-is_kept c = first_broken (KeepsPlan c.args.all.now c.args.last) c.args.entries.now c.loop-i.i c.index-entries-i.result c.loop-i-test.true c.index-entries-i.is c.loop-i.invariant
+    (subst (λ (o : Option ApiEntry). ¬ IsKept c.args.all.now c.args.last o c.index-entries-i.result c.index-entries-i.result.change) (link_at previous_of_version c.args.entries.now c.args.previous.now c.loop-i.i c.index-entries-i.result c.index-previous-i.result c.requires c.loop-i-test.true c.index-entries-i.is c.index-previous-i.is) (search rules))
 
 pub loop-i-preserved : goal.loop-i-preserved
-loop-i-preserved c = each_more (KeepsPlan c.args.entries.now c.args.last) c.args.entries.now c.loop-i.i c.index-entries-i.result c.loop-i-test.true c.index-entries-i.is c.loop-i.invariant
-    (subst (λ (o : Option ApiEntry). IsKept c.args.entries.now c.args.last o c.index-entries-i.result c.index-entries-i.result.change) (link_at previous_of_version c.args.entries.now c.args.previous.now c.loop-i.i c.index-entries-i.result c.index-previous-i.result c.requires c.loop-i-test.true c.index-entries-i.is c.index-previous-i.is) (search rules))
+loop-i-preserved c = each_more (KeepsPlan c.args.all.now c.args.last) c.args.entries.now c.loop-i.i c.index-entries-i.result c.loop-i-test.true c.index-entries-i.is c.loop-i.invariant
+    (subst (λ (o : Option ApiEntry). IsKept c.args.all.now c.args.last o c.index-entries-i.result c.index-entries-i.result.change) (link_at previous_of_version c.args.entries.now c.args.previous.now c.loop-i.i c.index-entries-i.result c.index-previous-i.result c.requires c.loop-i-test.true c.index-entries-i.is c.index-previous-i.is) (search rules))
 
 pub returns : goal.returns
-returns c = each_whole (KeepsPlan c.args.entries.now c.args.last) c.args.entries.now c.loop-i.i (omega arith) c.loop-i.invariant
+returns c = each_whole (KeepsPlan c.args.all.now c.args.last) c.args.entries.now c.loop-i.i (omega arith) c.loop-i.invariant

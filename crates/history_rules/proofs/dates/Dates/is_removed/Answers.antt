@@ -1,0 +1,6 @@
+use Rattle.history_rules.specs.declared.dates.Event.TheVariants.{Removal}
+use Rattle.history_rules.proofs.DateLemmas.{dated_by}
+use Rattle.history_rules.proofs.dates.Dates.is_removed.Goals as goal
+
+pub returns : goal.returns
+returns c = dated_by Removal c.self.inside.entries.now c.args.self.now c.self.inside.removed c.value_of.result c.args.group.now c.args.version.now c.args.resource.now c.args.e c.is_by.result c.self.invariant.removed c.self.view_is c.value_of.ensures c.is_by.ensures
