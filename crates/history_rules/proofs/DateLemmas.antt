@@ -1,5 +1,5 @@
 -- How the map of the earliest dates grows by an entry.
-use Rattle.std.proofs.Common.{ℕ, zero, suc, ◌≡◌, ◌≤◌, ◌<◌, ◌↔◌, List, [], ◌∷◌, ◌++◌, Bool, true, false, Option, Some, None, Result, Ok, Err, cond, length, refl, sym, ap, subst, ◌∙◌, arith, inl, inr, ◌⊎◌, get_or}
+use Rattle.std.proofs.Common.{ℕ, zero, suc, ◌≡◌, ◌≤◌, ◌<◌, ◌↔◌, List, [], ◌∷◌, ◌++◌, Bool, true, false, Option, Some, Result, Ok, Err, cond, length, refl, sym, ap, subst, ◌∙◌, arith, inl, inr, ◌⊎◌, get_or}
 use Rattle.std.specs.Prelude.{◌&&◌, Any, IsSomeAnd, IsTrue, OnOk}
 use Rattle.std.specs.BTreeMap.{BTreeMap}
 use Rattle.std.specs.Borrow.{Bor}

@@ -1,5 +1,4 @@
 use Rattle.std.proofs.Common.{rules, arith, subst, Option}
-use Rattle.gate_spec.specs.declared.entry.GateEntry.{GateEntry}
 use Rattle.lifecycle.specs.declared.entry.ApiEntry.{ApiEntry}
 use Rattle.schemas.specs.ApiRules.{previous_of_version, IsKept, KeepsPlan}
 use Rattle.schemas.proofs.PlaceLemmas.{each_more, each_whole, first_broken}

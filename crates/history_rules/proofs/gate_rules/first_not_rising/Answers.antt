@@ -1,6 +1,5 @@
 use Rattle.std.proofs.Common.{rules, arith, subst, Option}
 use Rattle.gate_spec.specs.declared.entry.GateEntry.{GateEntry}
-use Rattle.lifecycle.specs.declared.entry.ApiEntry.{ApiEntry}
 use Rattle.schemas.specs.GateRules.{previous_of_gate, RisesFrom, RisesInGate}
 use Rattle.schemas.proofs.PlaceLemmas.{each_more, each_whole, first_broken}
 use Rattle.history_rules.proofs.LinkLemmas.{link_at}

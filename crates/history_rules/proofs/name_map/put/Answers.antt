@@ -1,5 +1,5 @@
-use Rattle.std.proofs.Common.{ℕ, ◌≡◌, List, Bool, Option, Some, cond, ap, ◌∙◌}
-use Rattle.history_rules.specs.NameMap.{value_at, is_same_name}
+use Rattle.std.proofs.Common.{ℕ, List, Bool, Some, cond, ap, ◌∙◌}
+use Rattle.history_rules.specs.NameMap.{value_at}
 use Rattle.history_rules.proofs.NameLemmas.{same_name}
 use Rattle.history_rules.proofs.name_map.put.Goals as goal
 

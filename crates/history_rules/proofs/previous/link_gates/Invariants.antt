@@ -1,5 +1,4 @@
 use Rattle.std.proofs.Common.{ℕ, ◌≡◌, List, [], take}
-use Rattle.std.specs.Prelude.{◌&&◌}
 use Rattle.std.specs.Option.{option_copied}
 use Rattle.std.specs.Str.{bytes_eq}
 use Rattle.schemas.specs.Places.{last_passing}
