@@ -2,7 +2,7 @@
 use Rattle.std.specs.Prelude.{ℕ, Bool, true, false, List, ◌++◌, length, codes, decimal}
 use Rattle.std.specs.List.{flat_map}
 use Rattle.gate_flags.specs.declared.fault.GateCause.{GateCause}
-use Rattle.gate_flags.specs.declared.fault.GateCause.TheVariants as cause
+use Rattle.gate_flags.specs.Flags.{cause_name}
 use Rattle.gate_flags.specs.declared.values.GateRow.{GateRow}
 use Rattle.gate_spec.specs.declared.entry.Stage.{Stage}
 use Rattle.gate_spec.specs.declared.entry.Stage.TheVariants as stage
@@ -68,13 +68,6 @@ gate_line row = row.name ++ (codes " " ++ (stage_title row.stage ++ (codes " def
 abbrev pub gate_lines : List GateRow → List ℕ
 gate_lines rows = flat_map gate_line rows
 
-abbrev pub cause_name : GateCause → List ℕ
-cause_name cause.Missing = codes "Missing"
-cause_name cause.BadBool = codes "BadBool"
-cause_name cause.Unknown = codes "Unknown"
-cause_name cause.PreAlpha = codes "PreAlpha"
-cause_name (cause.Locked default) = codes "Locked"
-
 -- why a piece of a feature gate text is refused
 abbrev pub gate_fault_line : ℕ → GateCause → List ℕ
-gate_fault_line place c = codes "feature-gates: piece " ++ (decimal place ++ (codes ": " ++ (cause_name c ++ codes "\n")))
+gate_fault_line place cause = codes "feature-gates: piece " ++ (decimal place ++ (codes ": " ++ (cause_name cause ++ codes "\n")))

@@ -58,11 +58,7 @@ fn refused_version(
 }
 
 /// The group list of a release, or why the release is refused.
-fn listing(
-    alloc: Global,
-    emulated: Option<&str>,
-    accepted: &Accepted,
-) -> Result<Answer, Memory>
+fn listing(alloc: Global, emulated: Option<&str>, accepted: &Accepted) -> Result<Answer, Memory>
     ensures { IfOk result (λ a. IsListing (text_of emulated.entry) accepted.now a.status (string_bytes a.text)) }
 {
     match emulated_release(emulated, accepted) {

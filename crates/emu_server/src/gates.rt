@@ -1,6 +1,6 @@
 //! The lines of the command `gates`.
 ghost use Rattle.std.specs.Prelude.{◌≡◌, ◌++◌, IfOk, codes, string_bytes, take};
-ghost use Rattle.emu_server.specs.Lines.{stage_title, bool_word, gate_line, gate_lines, cause_name, gate_fault_line};
+ghost use Rattle.emu_server.specs.Lines.{stage_title, bool_word, gate_line, gate_lines, gate_fault_line};
 
 use basis::Memory;
 use gate_flags::{GateCause, GateRow, GateValues};
@@ -68,22 +68,10 @@ pub fn listed_gates(alloc: Global, values: &GateValues) -> Result<String, Memory
     Ok(text)
 }
 
-fn name_of(cause: GateCause) -> &'static str
-    ensures { result.now ≡ cause_name cause }
-{
-    match cause {
-        GateCause::Missing => "Missing",
-        GateCause::BadBool => "BadBool",
-        GateCause::Unknown => "Unknown",
-        GateCause::PreAlpha => "PreAlpha",
-        GateCause::Locked(_) => "Locked",
-    }
-}
-
 /// Which piece of a feature gate text is refused, and why.
 pub fn gate_refusal(alloc: Global, place: u64, cause: GateCause) -> Result<String, AllocError>
     ensures { IfOk result (λ s. string_bytes s ≡ gate_fault_line place cause) }
 {
-    let cause = name_of(cause);
+    let cause = cause.name();
     format!(in alloc; "feature-gates: piece {place}: {cause}\n")
 }

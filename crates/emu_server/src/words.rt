@@ -5,13 +5,16 @@ ghost use Rattle.emu_server.specs.Words.{AsksFor, GivesBoth, GivesOptions, comma
 ghost use Rattle.emu_server.specs.declared.words.Command.{Command as TheCommand};
 
 const EMULATED_VERSION: &str = "--emulated-version=";
+
 const FEATURE_GATES: &str = "--feature-gates=";
 
 /// What the words ask for.
 #[derive(Clone, Copy, Debug)]
 pub enum Command<'a> {
     /// The group list of a release.
-    Discover { emulated: Option<&'a str> },
+    Discover {
+        emulated: Option<&'a str>,
+    },
     /// The feature gates of a release, set by a text.
     Gates {
         emulated: Option<&'a str>,

@@ -1,5 +1,5 @@
 -- An accepted history's entries of one gate rise in date, and the release that was read is the one that is listed.
-use Rattle.std.proofs.Common.{◌≡◌, ◌≤◌, ℕ, List, [], Option, unwrap_or, inr, string_bytes, sym, subst, ap, ◌∙◌}
+use Rattle.std.proofs.Common.{◌≡◌, ℕ, List, [], Option, unwrap_or, inr, string_bytes, sym, subst, ap, ◌∙◌}
 use Rattle.std.proofs.lemmas.Result.{IfOk-weaker}
 use Rattle.gate_spec.specs.Gates.{RisesInDate}
 use Rattle.gate_spec.specs.declared.entry.GateEntry.{GateEntry}
