@@ -6,6 +6,8 @@ mod array;
 mod history;
 mod laws;
 mod shapes;
+#[cfg(test)]
+mod tests;
 
 pub use accepted::Accepted;
 pub use array::Array;
