@@ -10,6 +10,8 @@ mod lines;
 mod run;
 mod status;
 mod taking;
+#[cfg(test)]
+mod tests;
 mod words;
 
 pub use edges::fail_list::FailList;

@@ -1,0 +1,192 @@
+//! What no clause tells: that calls end otherwise than in want of memory, with the texts of the product's example.
+use super::*;
+use minor_version::Blob;
+use std::alloc::Global;
+use std::test::Fail;
+
+const EXAMPLE: &str = r#"first = "1.28"
+last = "1.33"
+gate = [
+ {name="WidgetColor", since="1.29", stage="ALPHA", default=false},
+ {name="WidgetColor", since="1.31", stage="BETA", default=true},
+ {name="WidgetColor", since="1.33", stage="", default=true, locked=true},
+ {name="SlowMode", since="1.28", stage="BETA", default=true},
+ {name="SlowMode", since="1.29", stage="", default=true, locked=true},
+ {name="SlowMode", since="1.32", removed=true},
+]
+api = [
+ {group="demo.example", version="v1beta1", resource="widgets", since="1.28", event="introduced", kind="Widget", singular="widget", namespaced=true, enabled=true},
+ {group="demo.example", version="v1beta1", resource="widgets", since="1.30", event="deprecated", removal="1.33", replacement="v1"},
+ {group="demo.example", version="v1beta1", resource="widgets", since="1.33", event="removed"},
+ {group="demo.example", version="v1", resource="widgets", since="1.30", event="introduced", kind="Widget", singular="widget", namespaced=true, enabled=true},
+ {group="demo.example", version="v1alpha1", resource="gadgets", since="1.32", event="introduced", kind="Gadget", singular="gadget", namespaced=true, enabled=false},
+]
+"#;
+
+const AT_33: &str =
+    r#"{"apiVersion":"v1","groups":[{"name":"demo.example","preferredVersion":{"groupVersion":"demo.example/v1","version":"v1"},"versions":[{"groupVersion":"demo.example/v1","version":"v1"}]}],"kind":"APIGroupList"}
+"#;
+
+const AT_30: &str =
+    r#"{"apiVersion":"v1","groups":[{"name":"demo.example","preferredVersion":{"groupVersion":"demo.example/v1","version":"v1"},"versions":[{"groupVersion":"demo.example/v1","version":"v1"},{"groupVersion":"demo.example/v1beta1","version":"v1beta1"}]}],"kind":"APIGroupList"}
+"#;
+
+const USAGE: &str = "usage: kube_emu <command> [options]\n";
+
+fn ended(
+    alloc: Global,
+    words: &[&str],
+    history: &[u8],
+    reads: &[u64],
+    writes: &[u64],
+) -> Result<(Status, MemSink), Fail> {
+    let mut source = MemSource::new(Blob::copy(alloc, history)?, FailList::new(alloc, reads)?);
+    let mut sink = MemSink::new(alloc, FailList::new(alloc, writes)?);
+    let status = run_plain(alloc, words, &mut source, &mut sink);
+    Ok((status, sink))
+}
+
+#[test]
+fn answers_on_the_example(rt: HostRuntime) -> Result<(), Fail> {
+    let cases: [(&[&str], Status, &str); 18] = [
+        (&[], Status::Usage, USAGE),
+        (&["discover"], Status::Ok, AT_33),
+        (&["discover", "--emulated-version=1.30"], Status::Ok, AT_30),
+        (
+            &["discover", "--emulated-version=kube=1.30"],
+            Status::Ok,
+            AT_30,
+        ),
+        (
+            &["discover", "--emulated-version=1.29"],
+            Status::Flags,
+            "emulated-version: out of range 1.30 to 1.33\n",
+        ),
+        (
+            &["discover", "--emulated-version=1.030"],
+            Status::Flags,
+            "emulated-version: not a version\n",
+        ),
+        (
+            &["discover", "--emulated-version="],
+            Status::Flags,
+            "emulated-version: not a version\n",
+        ),
+        (&["discover", "--emulated-version"], Status::Usage, USAGE),
+        (&["discover", "--feature-gates="], Status::Usage, USAGE),
+        (
+            &[
+                "gates",
+                "--emulated-version=1.30",
+                "--emulated-version=1.30",
+            ],
+            Status::Usage,
+            USAGE,
+        ),
+        (&["check", ""], Status::Usage, USAGE),
+        (&["Check"], Status::Usage, USAGE),
+        (
+            &["check"],
+            Status::Ok,
+            "accepted 1.28 to 1.33: 6 gate, 5 api, 0 field, 0 spell entries\n",
+        ),
+        (
+            &["gates", "--feature-gates=WidgetColor=false"],
+            Status::Flags,
+            "feature-gates: piece 1: Locked\n",
+        ),
+        (
+            &[
+                "gates",
+                "--feature-gates=WidgetColor=false",
+                "--emulated-version=1.32",
+            ],
+            Status::Ok,
+            "WidgetColor BETA default=true locked=false value=false\n",
+        ),
+        (
+            &[
+                "gates",
+                "--emulated-version=1.31",
+                "--feature-gates= AllBeta=false , WidgetColor=true,,WidgetColor=T",
+            ],
+            Status::Ok,
+            "SlowMode GA default=true locked=true value=true\nWidgetColor BETA default=true locked=false value=true\n",
+        ),
+        (
+            &[
+                "gates",
+                "--emulated-version=v1.32",
+                "--feature-gates=SlowMode=true",
+            ],
+            Status::Flags,
+            "feature-gates: piece 1: Unknown\n",
+        ),
+        (
+            &[
+                "gates",
+                "--emulated-version=1.34",
+                "--feature-gates=WidgetColor",
+            ],
+            Status::Flags,
+            "emulated-version: out of range 1.30 to 1.33\n",
+        ),
+    ];
+    for (words, status, text) in cases {
+        let (ended, sink) = ended(rt.alloc(), words, EXAMPLE.as_bytes(), &[], &[])?;
+        assert_eq!(rt; ended, status, "{words:?}");
+        assert_eq!(rt; sink.written(), text.as_bytes(), "{words:?}");
+        assert_eq!(rt; sink.starved(), 0);
+    }
+    Ok(())
+}
+
+#[test]
+fn histories_that_are_refused(rt: HostRuntime) -> Result<(), Fail> {
+    let alloc = rt.alloc();
+    let cases = [
+        ("", "history: rule HR1 at top 0\n"),
+        ("a = = 1", "history: not TOML\n"),
+        ("field = []", "history: entry top 0 member field\n"),
+        (
+            "first = \"1.28\"\nlast = \"1.33\"\n[[gate]]\nname = \"A\"\nsince = \"1.28\"\nstage = \"GAMMA\"\ndefault = true\n",
+            "history: entry gate 1 member stage\n",
+        ),
+        (
+            "first = \"1.28\"\nlast = \"1.33\"\n[[gate]]\nname = \"A\"\nsince = \"1.28\"\nstage = \"\"\ndefault = false\n",
+            "history: rule HR4 at gate 1\n",
+        ),
+    ];
+    for (text, line) in cases {
+        let (status, sink) = ended(alloc, &["check"], text.as_bytes(), &[], &[])?;
+        assert_eq!(rt; status, Status::History, "{text}");
+        assert_eq!(rt; sink.written(), line.as_bytes(), "{text}");
+    }
+    let blank = vec![in alloc; b' '; 1_048_577]?;
+    let (status, sink) = ended(alloc, &["discover"], blank.as_slice(), &[], &[])?;
+    assert_eq!(rt; status, Status::History);
+    assert_eq!(rt; sink.written(), b"history: too long\n".as_slice());
+    Ok(())
+}
+
+#[test]
+fn faults_outside(rt: HostRuntime) -> Result<(), Fail> {
+    let alloc = rt.alloc();
+    let (status, sink) = ended(alloc, &["discover"], EXAMPLE.as_bytes(), &[2], &[])?;
+    assert_eq!(rt; status, Status::ReadFault);
+    assert_eq!(rt; sink.written(), b"read fault\n".as_slice());
+    let (status, sink) = ended(alloc, &["discover"], EXAMPLE.as_bytes(), &[], &[1])?;
+    assert_eq!(rt; status, Status::WriteFault);
+    assert!(rt; sink.written().is_empty());
+    let (status, _) = ended(alloc, &[], EXAMPLE.as_bytes(), &[], &[1])?;
+    assert_eq!(rt; status, Status::WriteFault);
+    Ok(())
+}
+
+#[test]
+fn standard_edges(rt: HostRuntime) {
+    let mut none = [];
+    assert_eq!(rt; StdSource::new(&rt).read(&mut none), Ok(0));
+    assert_eq!(rt; StdSink::new(&rt).write(b""), Ok(()));
+    assert_eq!(rt; Status::Spent.number(), 11);
+}
