@@ -33,12 +33,8 @@ fn group_list_line(alloc: Global, entries: &[ApiEntry], e: Minor) -> Result<Stri
     ensures { IfOk result (λ s. IsGroupListLine entries.now e (string_bytes s)) }
 {
     let value = group_list(alloc, entries, e)?;
-    let Ok(mut text) = value.to_string(alloc) else {
-        return Err(Memory);
-    };
-    let Ok(()) = text.push('\n') else {
-        return Err(Memory);
-    };
+    let mut text = value.to_string(alloc)?;
+    text.push('\n')?;
     Ok(text)
 }
 
@@ -77,13 +73,11 @@ fn listing(alloc: Global, emulated: Option<&str>, accepted: &Accepted) -> Result
 fn refused_piece(alloc: Global, place: u64, cause: GateCause) -> Result<Answer, Memory>
     ensures { IfOk result (λ a. (a.status ≡ Status.Flags) × (string_bytes a.text ≡ gate_fault_line place cause)) }
 {
-    match gate_refusal(alloc, place, cause) {
-        Ok(text) => Ok(Answer {
-            status: Status::Flags,
-            text,
-        }),
-        Err(_) => Err(Memory),
-    }
+    let text = gate_refusal(alloc, place, cause)?;
+    Ok(Answer {
+        status: Status::Flags,
+        text,
+    })
 }
 
 /// The lines of the gates with these values.
@@ -168,26 +162,22 @@ fn work(alloc: Global, command: Command<'_>, accepted: &Accepted) -> Result<Answ
 fn refused_reading(alloc: Global, fault: &HistoryFault) -> Result<Answer, Memory>
     ensures { IfOk result (λ a. (a.status ≡ Status.History) × (string_bytes a.text ≡ reading_line fault.now)) }
 {
-    match reading_refusal(alloc, fault) {
-        Ok(text) => Ok(Answer {
-            status: Status::History,
-            text,
-        }),
-        Err(_) => Err(Memory),
-    }
+    let text = reading_refusal(alloc, fault)?;
+    Ok(Answer {
+        status: Status::History,
+        text,
+    })
 }
 
 /// Which rule the history breaks.
 fn refused_rule(alloc: Global, rule: u8, array: Array, number: u64) -> Result<Answer, Memory>
     ensures { IfOk result (λ a. (a.status ≡ Status.History) × (string_bytes a.text ≡ rule_line rule array number)) }
 {
-    match rule_refusal(alloc, rule, array, number) {
-        Ok(text) => Ok(Answer {
-            status: Status::History,
-            text,
-        }),
-        Err(_) => Err(Memory),
-    }
+    let text = rule_refusal(alloc, rule, array, number)?;
+    Ok(Answer {
+        status: Status::History,
+        text,
+    })
 }
 
 /// What is to be answered to a command on a history that was read.

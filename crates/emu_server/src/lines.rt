@@ -74,10 +74,8 @@ pub fn acceptance(alloc: Global, accepted: &Accepted) -> Result<String, Memory>
     let history = accepted.history();
     let gates = history.gates.items().len();
     let apis = history.apis.items().len();
-    match counts(alloc, first.as_str(), last.as_str(), gates, apis) {
-        Ok(text) => Ok(text),
-        Err(_) => Err(Memory),
-    }
+    let text = counts(alloc, first.as_str(), last.as_str(), gates, apis)?;
+    Ok(text)
 }
 
 fn out_of_range(alloc: Global, low: &str, high: &str) -> Result<String, AllocError>
@@ -94,16 +92,16 @@ pub fn version_refusal(
 ) -> Result<String, Memory>
     ensures { IfOk result (λ s. string_bytes s ≡ version_line (first_of accepted.now) (last_of accepted.now) fault) }
 {
-    let made = match fault {
-        VersionFault::NotAVersion => String::from_str(alloc, "emulated-version: not a version\n"),
+    match fault {
+        VersionFault::NotAVersion => {
+            let text = String::from_str(alloc, "emulated-version: not a version\n")?;
+            Ok(text)
+        }
         VersionFault::OutOfRange => {
             let low = accepted.floor().text(alloc)?;
             let high = accepted.last().text(alloc)?;
-            out_of_range(alloc, low.as_str(), high.as_str())
+            let text = out_of_range(alloc, low.as_str(), high.as_str())?;
+            Ok(text)
         }
-    };
-    match made {
-        Ok(text) => Ok(text),
-        Err(_) => Err(Memory),
     }
 }

@@ -96,10 +96,8 @@ pub fn versions(
     ensures { IfOk result (λ v. AreVersions entries.now e group.now v.items) }
 {
     let set = version_set(alloc, entries, e, group)?;
-    match set.into_iter().collect(alloc) {
-        Ok(words) => Ok(words),
-        Err(_) => Err(Memory),
-    }
+    let words = set.into_iter().collect(alloc)?;
+    Ok(words)
 }
 
 fn group_set(alloc: Global, entries: &[ApiEntry], e: Minor) -> Result<BTreeSet<Text>, Memory>
@@ -122,8 +120,6 @@ pub fn groups(alloc: Global, entries: &[ApiEntry], e: Minor) -> Result<Vec<Text>
     ensures { IfOk result (λ v. AreGroups entries.now e v.items) }
 {
     let set = group_set(alloc, entries, e)?;
-    match set.into_iter().collect(alloc) {
-        Ok(names) => Ok(names),
-        Err(_) => Err(Memory),
-    }
+    let names = set.into_iter().collect(alloc)?;
+    Ok(names)
 }

@@ -98,8 +98,6 @@ pub fn group_list(alloc: Global, entries: &[ApiEntry], e: Minor) -> Result<Value
 {
     let names = groups(alloc, entries, e)?;
     let values = group_values(alloc, entries, e, names.as_slice())?;
-    match page_value(alloc, values) {
-        Ok(value) => Ok(value),
-        Err(_) => Err(Memory),
-    }
+    let value = page_value(alloc, values)?;
+    Ok(value)
 }

@@ -10,4 +10,4 @@ unfolding lib.Utf8.encode
 returns c =
     let list = c.in_ok-value.ensures in
     let plain : has_float (view c.in_ok-value.value) ≡ false = ap has_float list.is ∙ page_no_float list.groups in
-    (view c.in_ok-value.value, list, c.in-Ok-push.ensures.bytes ∙ ap (λ t. t ++ 10 ∷ []) (c.in-Ok.ensures.text plain))
+    (view c.in_ok-value.value, list, c.in_ok-push.ensures.bytes ∙ ap (λ t. t ++ 10 ∷ []) (c.in_ok-text.ensures.text plain))
