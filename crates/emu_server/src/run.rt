@@ -1,5 +1,5 @@
 //! The top call.
-ghost use Rattle.std.specs.Prelude.{◌≡◌, ◌≤◌, ◌⊎◌, ℕ, List, Some};
+ghost use Rattle.std.specs.Prelude.{◌≡◌, ◌≤◌, ◌+◌, ◌⊎◌, ℕ, List, Some};
 ghost use Rattle.std.specs.Io.KnownBytes.{Keeps, Appends, IsAtEnd};
 ghost use Rattle.basis.specs.Counts.{Rose};
 ghost use Rattle.emu_server.specs.Outside.{AppendsFront};
@@ -12,6 +12,7 @@ use crate::edges::outside::{Sink, Source};
 use crate::status::Status;
 use crate::taking::{TakeFault, take_history};
 use crate::words::read_words;
+use history_reader::LONGEST_DOCUMENT;
 use std::alloc::Global;
 
 /// Writes a text, and ends with a status.
@@ -41,7 +42,7 @@ pub fn run_plain<S: Source, K: Sink>(
     // At Ok the source was read to its end, at Usage not at all, and never by more than one byte too many.
     ensures whole { result ≡ Status.Ok → IsAtEnd (S.left history.new) }
     ensures unread { result ≡ Status.Usage → Keeps (S.left history.old) (S.left history.new) }
-    ensures taken { TakesAtMost 1048577 (S.left history.old) (S.left history.new) }
+    ensures taken { TakesAtMost (LONGEST_DOCUMENT + 1) (S.left history.old) (S.left history.new) }
 
     // A fault is answered only where the count of its object rose.
     ensures read_fault { result ≡ Status.ReadFault → Rose (S.faults history.old) (S.faults history.new) }

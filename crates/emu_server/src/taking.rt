@@ -5,10 +5,8 @@ ghost use Rattle.basis.specs.Counts.{Rose};
 ghost use Rattle.emu_server.specs.Run.{TakesAtMost};
 
 use crate::edges::outside::Source;
+use history_reader::LONGEST_DOCUMENT;
 use std::alloc::Global;
-
-/// The greatest length of a history document, in bytes.
-const LONGEST_HISTORY: usize = 1_048_576;
 
 /// How many bytes are asked for at once.
 const PIECE: usize = 4096;
@@ -23,16 +21,16 @@ pub enum TakeFault {
 /// Takes all the bytes of a source, or one more than the longest history has.
 pub fn take_history<S: Source>(alloc: Global, source: &mut S) -> Result<Vec<u8>, TakeFault>
     ensures bytes { IfOk result (λ v. Consumes (S.left source.old) (S.left source.new) v.items) }
-    ensures most { IfOk result (λ v. vec_len v ≤ LONGEST_HISTORY + 1) }
-    ensures end { IfOk result (λ v. vec_len v ≤ LONGEST_HISTORY → IsAtEnd (S.left source.new)) }
-    ensures taken { TakesAtMost (LONGEST_HISTORY + 1) (S.left source.old) (S.left source.new) }
+    ensures most { IfOk result (λ v. vec_len v ≤ LONGEST_DOCUMENT + 1) }
+    ensures end { IfOk result (λ v. vec_len v ≤ LONGEST_DOCUMENT → IsAtEnd (S.left source.new)) }
+    ensures taken { TakesAtMost (LONGEST_DOCUMENT + 1) (S.left source.old) (S.left source.new) }
     ensures read { IfErr result (λ e. e ≡ TakeFault.Read → Rose (S.faults source.old) (S.faults source.new)) }
     ensures later { S.faults source.old ≤ S.faults source.new }
 {
     let mut taken = Vec::new(alloc);
     let mut buffer = [0u8; PIECE];
-    while taken.len() <= LONGEST_HISTORY {
-        let room = (LONGEST_HISTORY + 1 - taken.len()).min(PIECE);
+    while taken.len() <= LONGEST_DOCUMENT {
+        let room = (LONGEST_DOCUMENT + 1 - taken.len()).min(PIECE);
         let piece = &mut buffer[..room];
         let Ok(count) = source.read(piece) else {
             return Err(TakeFault::Read);

@@ -1,4 +1,4 @@
-//! A release history from its document (TOML v1.0.0), or the first fault of the document and its place.
+//! A release history from its document (TOML 1.1), or the first fault of the document and its place.
 //!
 //! What a document may hold is the member table: `rows` has the rows of each table, `demand` what a row can demand,
 //! and `fault` goes over them in order. `entries` makes entries of tables in which no fault was found, by `gates` and `apis`.
@@ -18,5 +18,5 @@ mod tests;
 mod tree;
 
 pub use laws::reading_has_one_answer;
-pub use read::{HistoryFault, read_history};
+pub use read::{HistoryFault, LONGEST_DOCUMENT, read_history};
 pub use schemas::Array;

@@ -24,7 +24,7 @@ use std::fmt;
 use toml::Table;
 
 /// The greatest length of a history document, in bytes.
-const LONGEST_DOCUMENT: usize = 1_048_576;
+pub const LONGEST_DOCUMENT: usize = 1_048_576;
 
 /// Why bytes are no history document.
 #[derive(Debug, Drop)]
