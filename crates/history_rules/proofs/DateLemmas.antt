@@ -12,6 +12,7 @@ use Rattle.lifecycle.specs.declared.entry.ApiEntry.{ApiEntry}
 use Rattle.schemas.specs.ApiRules.{name_of}
 use Rattle.history_rules.specs.NameMap.{value_at, is_same_name}
 use Rattle.history_rules.specs.Dates.{IsEvent, HasEarliest, PutsEarlier}
+use Rattle.history_rules.proofs.NameLemmas.{same_parts}
 use Rattle.history_rules.specs.declared.dates.Event.{Event}
 
 any_uncons : {E : Type 0} (P : E → Type 0) (x : E) (xs : List E) (k : ℕ) (y : E) → k < length (x ∷ xs) → get_or (x ∷ xs) k y ≡ y → P y → P x ⊎ Any P xs
@@ -37,12 +38,6 @@ any_unpushed {E} P (x ∷ xs) y any = elim (any_uncons P x (xs ++ y ∷ []) any.
   | inl here ↦ inl (0, x, (omega arith), refl, here)
   | inr more ↦ elim (any_unpushed P xs y more) [ inl old ↦ inl (any_cons P x xs old) | inr new ↦ inr new ]
 ]
-
-same_bytes : (a b : List ℕ) → a ≡ b → bytes_eq a b ≡ true
-same_bytes a b e = (bytes_eq-Decides a b).1 e
-
-pub same_parts : (a b c x y z : List ℕ) → a ≡ x → b ≡ y → c ≡ z → is_same_name a b c x y z ≡ true
-same_parts a b c x y z p q r = rw (same_bytes a x p, same_bytes b y q, same_bytes c z r)
 
 abbrev Dated : Type 0
 Dated = BTreeMap (Bor (List ℕ) × Bor (List ℕ) × Bor (List ℕ)) ℕ

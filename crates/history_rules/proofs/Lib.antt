@@ -1,3 +1,4 @@
 pub mod NameLemmas
 pub mod LinkLemmas
 pub mod DateLemmas
+pub mod FollowerLemmas

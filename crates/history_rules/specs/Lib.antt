@@ -2,4 +2,5 @@ pub mod Fault
 pub mod NameMap
 pub mod Previous
 pub mod Dates
+pub mod Followers
 pub mod DatesFields

@@ -3,7 +3,7 @@ ghost use Rattle.std.specs.Prelude.{◌≡◌, ◌↔◌, [], IsTrue, codes, len
 ghost use Rattle.std.specs.Option.{option_copied};
 ghost use Rattle.lifecycle.specs.Stability.{rank_of};
 ghost use Rattle.schemas.specs.Places.{FindsFirst};
-ghost use Rattle.schemas.specs.ApiRules.{previous_of_version, name_of, notice_of, AgreeInKind, DifferInKind, KeepKindsApart, HasLawfulName, IsNext, StandsInOrder, NamesItsKind, IsFairBetween, IsFairDeprecation, IsFairChange, DeprecatesFairly, IsPlanned, IsKept, KeepsPlan, IsForgotten, IsInFavourOf, IsLateAfter, AreForgottenFirst, IsForgottenLate, ForgetsLate};
+ghost use Rattle.schemas.specs.ApiRules.{previous_of_version, notice_of, AgreeInKind, DifferInKind, KeepKindsApart, HasLawfulName, IsNext, StandsInOrder, NamesItsKind, IsFairBetween, IsFairDeprecation, IsFairChange, DeprecatesFairly, IsPlanned, IsKept, KeepsPlan, IsLateAfter, IsForgottenLate, ForgetsLate};
 ghost use Rattle.schemas.specs.Rules.{IsApiBy};
 ghost use Rattle.history_rules.specs.Previous.{AreLinked};
 
@@ -304,48 +304,6 @@ pub fn first_unplanned<'a>(
     None
 }
 
-fn is_in_favour_of(entry: &ApiEntry, y: &ApiEntry) -> bool
-    ensures { IsTrue result ↔ IsInFavourOf entry.now y.now y.now.change }
-{
-    match &y.change {
-        ApiChange::Deprecated { replacement, .. } => {
-            entry.group == y.group && entry.version == *replacement && entry.resource == y.resource
-        }
-        _ => false,
-    }
-}
-
-fn is_forgotten_before<'a>(all: &Dates<'a>, entry: &'a ApiEntry, y: &'a ApiEntry) -> bool
-    ensures { IsTrue result ↔ (IsInFavourOf entry.now y.now y.now.change → IsForgotten all.now (name_of y.now.group y.now.version y.now.resource) entry.now.since) }
-{
-    if is_in_favour_of(entry, y) {
-        is_forgotten_by(all, y, entry.since)
-    } else {
-        true
-    }
-}
-
-fn is_forgotten_by<'a>(all: &Dates<'a>, y: &'a ApiEntry, e: Minor) -> bool
-    ensures { IsTrue result ↔ IsForgotten all.now (name_of y.now.group y.now.version y.now.resource) e }
-{
-    let group = y.group.bytes();
-    let version = y.version.bytes();
-    let resource = y.resource.bytes();
-    all.is_forgotten(group, version, resource, e)
-}
-
-fn are_followers_forgotten<'a>(all: &Dates<'a>, entry: &'a ApiEntry) -> bool
-    ensures { IsTrue result ↔ AreForgottenFirst all.now entry.now }
-{
-    let entries = all.entries();
-    for y in entries {
-        if !is_forgotten_before(all, entry, y) {
-            return false;
-        }
-    }
-    true
-}
-
 fn is_late(previous: Option<&ApiEntry>, entry: &ApiEntry) -> bool
     ensures { IsTrue result ↔ IsLateAfter (option_copied previous.entry) entry.now.since }
 {
@@ -379,7 +337,7 @@ fn forgets_late<'a>(all: &Dates<'a>, previous: Option<&'a ApiEntry>, entry: &'a 
     ensures { IsTrue result ↔ IsForgottenLate all.now (option_copied previous.entry) entry.now entry.now.change }
 {
     match &entry.change {
-        ApiChange::Forgotten => is_late(previous, entry) && are_followers_forgotten(all, entry),
+        ApiChange::Forgotten => is_late(previous, entry) && all.are_followers_forgotten(entry),
         _ => true,
     }
 }

@@ -2,6 +2,7 @@
 ghost use Rattle.std.specs.Prelude.{◌≡◌, ◌↔◌, ◌≤◌, ◌⊎◌, ℕ, IsTrue, IfOk, OnOk, IsSomeAnd};
 ghost use Rattle.history_rules.specs.Dates.{HasEarliest, PutsEarlier};
 
+use crate::followers::{Followers, are_by, follow};
 use crate::name_map::{NameMap, put, value_of};
 use basis::Memory;
 use lifecycle::{ApiChange, ApiEntry};
@@ -45,7 +46,7 @@ impl Event {
     }
 
     /// For each version the earliest date of this event.
-    fn earliest<'a>(
+    pub fn earliest<'a>(
         self,
         alloc: Global,
         entries: &'a [ApiEntry],
@@ -89,7 +90,7 @@ pub struct Dates<'a> {
     entries: &'a [ApiEntry],
     introduced: NameMap<'a, Minor>,
     removed: NameMap<'a, Minor>,
-    forgotten: NameMap<'a, Minor>,
+    followers: Followers<'a>,
 }
 
 impl<'a> Model for Dates<'a> {
@@ -107,7 +108,7 @@ impl<'a> Model for Dates<'a> {
 
 impl<'a> Dates<'a> {
     ghost use Rattle.lifecycle.specs.Entry.{IsIntroduced, IsRemoved};
-    ghost use Rattle.schemas.specs.ApiRules.{name_of, IsForgotten};
+    ghost use Rattle.schemas.specs.ApiRules.{name_of, AreForgottenFirst};
 
     /// The index of the entries.
     pub fn new(alloc: Global, entries: &'a [ApiEntry]) -> Result<Self, Memory>
@@ -119,22 +120,15 @@ impl<'a> Dates<'a> {
         let Ok(removed) = Event::Removal.earliest(alloc, entries) else {
             return Err(Memory);
         };
-        let Ok(forgotten) = Event::Forgetting.earliest(alloc, entries) else {
+        let Ok(followers) = follow(alloc, entries) else {
             return Err(Memory);
         };
         Ok(Dates {
             entries,
             introduced,
             removed,
-            forgotten,
+            followers,
         })
-    }
-
-    /// The entries that the index is of.
-    pub fn entries(&self) -> &'a [ApiEntry]
-        ensures { result.now ≡ self.now }
-    {
-        self.entries
     }
 
     /// Whether the version is introduced at or before the release.
@@ -163,17 +157,17 @@ impl<'a> Dates<'a> {
         is_by(value_of(&self.removed, group, version, resource), e)
     }
 
-    /// Whether the version is forgotten at or before the release.
-    pub fn is_forgotten(
-        &self,
-        group: &'a [u8],
-        version: &'a [u8],
-        resource: &'a [u8],
-        e: Minor,
-    ) -> bool
-        ensures { IsTrue result ↔ IsForgotten self.now (name_of group.now version.now resource.now) e }
+    /// Whether each version deprecated in favour of the entry's is forgotten not later than the entry is dated.
+    pub fn are_followers_forgotten(&self, entry: &'a ApiEntry) -> bool
+        ensures { IsTrue result ↔ AreForgottenFirst self.now entry.now }
     {
-        is_by(value_of(&self.forgotten, group, version, resource), e)
+        let group = entry.group.bytes();
+        let version = entry.version.bytes();
+        let resource = entry.resource.bytes();
+        are_by(
+            value_of(&self.followers, group, version, resource),
+            entry.since,
+        )
     }
 }
 

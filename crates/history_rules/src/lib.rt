@@ -6,6 +6,7 @@ mod accept;
 mod api_rules;
 mod dates;
 mod fault;
+mod followers;
 mod gate_rules;
 mod name_map;
 mod previous;
