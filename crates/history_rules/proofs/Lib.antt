@@ -2,3 +2,4 @@ pub mod NameLemmas
 pub mod LinkLemmas
 pub mod DateLemmas
 pub mod FollowerLemmas
+pub mod KindLemmas

@@ -31,7 +31,7 @@ one_part a b q e = and_true (bytes_eq a q && true) ∙ and_true (bytes_eq a q) �
 pub three_parts : (a b c a' b' c' x y z : List ℕ) → a ≡ a' → b ≡ b' → c ≡ c' → is_same_name a b c x y z ≡ (bytes_eq x a' && bytes_eq y b' && bytes_eq z c')
 three_parts a b c a' b' c' x y z p q r = rw (bytes_turned a x, bytes_turned b y, bytes_turned c z, p, q, r)
 
-same_bytes : (a b : List ℕ) → a ≡ b → bytes_eq a b ≡ true
+pub same_bytes : (a b : List ℕ) → a ≡ b → bytes_eq a b ≡ true
 same_bytes a b e = (bytes_eq-Decides a b).1 e
 
 pub same_parts : (a b c x y z : List ℕ) → a ≡ x → b ≡ y → c ≡ z → is_same_name a b c x y z ≡ true

@@ -4,3 +4,5 @@ pub mod Previous
 pub mod Dates
 pub mod Followers
 pub mod DatesFields
+pub mod Kinds
+pub mod KindsFields

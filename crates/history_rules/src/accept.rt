@@ -12,6 +12,7 @@ use crate::gate_rules::{
     first_late_gate, first_not_rising, first_unfit_spec, first_unripe_removal,
 };
 use crate::previous::{link_gates, link_versions};
+use basis::Memory;
 use minor_version::Minor;
 use schemas::{Accepted, Array, History};
 use std::alloc::Global;
@@ -64,8 +65,10 @@ fn check_rules(alloc: Global, h: &History) -> Result<(), CheckFault>
     if let Some(index) = first_out_of_order(apis, &previous_apis) {
         return Err(broken(6, Array::Api, index));
     }
-    if let Some(index) = first_mixed_kind(apis) {
-        return Err(broken(7, Array::Api, index));
+    match first_mixed_kind(alloc, apis) {
+        Ok(Some(index)) => return Err(broken(7, Array::Api, index)),
+        Ok(None) => {}
+        Err(Memory) => return Err(CheckFault::Memory),
     }
     if let Some(index) = first_unfair_deprecation(&all, apis) {
         return Err(broken(8, Array::Api, index));

@@ -1,15 +1,20 @@
 //! The rules on versions of resources: for each, the number of the first entry that breaks it.
-ghost use Rattle.std.specs.Prelude.{◌≡◌, ◌↔◌, [], IsTrue, codes, length};
+ghost use Rattle.std.specs.Prelude.{◌≡◌, ◌↔◌, List, [], IsTrue, IfOk, codes, length};
 ghost use Rattle.std.specs.Option.{option_copied};
 ghost use Rattle.lifecycle.specs.Stability.{rank_of};
+ghost use Rattle.lifecycle.specs.declared.entry.ApiEntry.{ApiEntry as TheEntry};
 ghost use Rattle.schemas.specs.Places.{FindsFirst};
-ghost use Rattle.schemas.specs.ApiRules.{previous_of_version, notice_of, AgreeInKind, DifferInKind, KeepKindsApart, HasLawfulName, IsNext, StandsInOrder, NamesItsKind, IsFairBetween, IsFairDeprecation, IsFairChange, DeprecatesFairly, IsPlanned, IsKept, KeepsPlan, IsLateAfter, IsForgottenLate, ForgetsLate};
+ghost use Rattle.schemas.specs.ApiRules.{previous_of_version, notice_of, HasLawfulName, IsNext, StandsInOrder, NamesItsKind, IsFairBetween, IsFairDeprecation, IsFairChange, DeprecatesFairly, IsPlanned, IsKept, KeepsPlan, IsLateAfter, IsForgottenLate, ForgetsLate};
 ghost use Rattle.schemas.specs.Rules.{IsApiBy};
 ghost use Rattle.history_rules.specs.Previous.{AreLinked};
+ghost use Rattle.history_rules.specs.KindsFields.{AreKindsOf};
 
 use crate::dates::Dates;
+use crate::kinds::Kinds;
+use basis::Memory;
 use lifecycle::{ApiChange, ApiEntry, Level, version_word};
 use minor_version::{Minor, Text};
+use std::alloc::Global;
 
 /// For how many releases a removed version is still read.
 const MEMORY: u16 = 3;
@@ -58,55 +63,6 @@ pub fn first_out_of_order(entries: &[ApiEntry], previous: &[Option<&ApiEntry>]) 
     None
 }
 
-fn agree_in_kind(x: &ApiChange, y: &ApiChange) -> bool
-    ensures { IsTrue result ↔ AgreeInKind x.now y.now }
-{
-    match (x, y) {
-        (
-            ApiChange::Introduced {
-                kind,
-                singular,
-                namespaced,
-                ..
-            },
-            ApiChange::Introduced {
-                kind: other_kind,
-                singular: other_singular,
-                namespaced: other_namespaced,
-                ..
-            },
-        ) => { kind == other_kind && singular == other_singular && namespaced == other_namespaced }
-        _ => true,
-    }
-}
-
-fn differ_in_kind(x: &ApiChange, y: &ApiChange) -> bool
-    ensures { IsTrue result ↔ DifferInKind x.now y.now }
-{
-    match (x, y) {
-        (
-            ApiChange::Introduced { kind, .. },
-            ApiChange::Introduced {
-                kind: other_kind,
-                ..
-            },
-        ) => kind != other_kind,
-        _ => true,
-    }
-}
-
-fn keep_kinds_apart(x: &ApiEntry, y: &ApiEntry) -> bool
-    ensures { IsTrue result ↔ KeepKindsApart x.now y.now }
-{
-    if x.group != y.group {
-        true
-    } else if x.resource == y.resource {
-        agree_in_kind(&x.change, &y.change)
-    } else {
-        differ_in_kind(&x.change, &y.change)
-    }
-}
-
 fn is_core(group: &Text) -> bool
     ensures { IsTrue result ↔ (group.now ≡ []) }
 {
@@ -135,22 +91,27 @@ fn has_lawful_name(entry: &ApiEntry) -> bool
     entry.resource.as_str() != "namespaces" && has_core_version(entry)
 }
 
-fn names_its_kind(earlier: &[ApiEntry], entry: &ApiEntry) -> bool
-    ensures { IsTrue result ↔ NamesItsKind earlier.now entry.now }
+fn names_its_kind<'a>(kinds: &Kinds<'a>, entry: &'a ApiEntry) -> bool
+    ensures { (earlier : List TheEntry) → AreKindsOf earlier kinds.now → IsTrue result ↔ NamesItsKind earlier entry.now }
 {
-    has_lawful_name(entry) && earlier.iter().all(|y| keep_kinds_apart(entry, y))
+    has_lawful_name(entry) && kinds.are_apart_from(entry)
 }
 
 /// The first entry that mixes up the kinds of its group, or has a name that a path can't have (HR7).
-pub fn first_mixed_kind(entries: &[ApiEntry]) -> Option<u64>
-    ensures { FindsFirst NamesItsKind entries.now result }
+pub fn first_mixed_kind(alloc: Global, entries: &[ApiEntry]) -> Result<Option<u64>, Memory>
+    ensures { IfOk result (FindsFirst NamesItsKind entries.now) }
 {
+    let mut kinds = Kinds::new(alloc);
     for (i, entry) in entries.iter().enumerate() {
-        if !names_its_kind(&entries[..i], entry) {
-            return Some(i as u64 + 1);
+        if !names_its_kind(&kinds, entry) {
+            return Ok(Some(i as u64 + 1));
+        }
+        match kinds.take_in(entry) {
+            Ok(()) => {}
+            Err(Memory) => return Err(Memory),
         }
     }
-    None
+    Ok(None)
 }
 
 fn rank(level: Level) -> u8

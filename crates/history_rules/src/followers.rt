@@ -1,5 +1,5 @@
 //! By when the versions deprecated in favour of another are forgotten, in one pass.
-ghost use Rattle.std.specs.Prelude.{◌≡◌, ◌↔◌, ◌≤◌, ℕ, List, [], ◌∷◌, ◌++◌, IsTrue, IfOk, OnOk, IfSome, IsSomeAnd};
+ghost use Rattle.std.specs.Prelude.{◌↔◌, ◌≤◌, ℕ, List, [], ◌∷◌, ◌++◌, IsTrue, IfOk, OnOk, IfSome, IsSomeAnd};
 ghost use Rattle.lifecycle.specs.declared.entry.ApiEntry.{ApiEntry as TheEntry};
 ghost use Rattle.schemas.specs.ApiRules.{name_of, IsForgotten};
 ghost use Rattle.history_rules.specs.Dates.{HasEarliest};

@@ -8,6 +8,7 @@ mod dates;
 mod fault;
 mod followers;
 mod gate_rules;
+mod kinds;
 mod name_map;
 mod previous;
 #[cfg(test)]

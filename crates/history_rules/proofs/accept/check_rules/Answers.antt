@@ -68,14 +68,14 @@ returns-in-Some-first_out_of_order-clause-broken c =
     let first : IsFirst (Breaks (StandsInOrder) c.args.h.now.apis) c.in-Some-first_out_of_order.index = moved (λ (l : ℕ) (g : List GateEntry) (a : List ApiEntry). IsFirst (Breaks (StandsInOrder) a) c.in-Some-first_out_of_order.index) l g a c.in-Some-first_out_of_order.ensures in
     subst (IsFaultOf c.args.h.now) (sym c.broken-in-Some-first_out_of_order.ensures) (inr ((λ n top. top.1 c.in-Some.ensures.some.0), inr (unbroken (IsGateBy (last_of c.args.h.now)) c.args.h.now.gates (moved (λ (l : ℕ) (g : List GateEntry) (a : List ApiEntry). Each (IsGateBy l) g) l g a c.in_default-first_late_gate.ensures), inr (unbroken (IsApiBy (last_of c.args.h.now)) c.args.h.now.apis (moved (λ (l : ℕ) (g : List GateEntry) (a : List ApiEntry). Each (IsApiBy l) a) l g a c.in_default-first_late_api.ensures), inr (unbroken (RisesInGate) c.args.h.now.gates (moved (λ (l : ℕ) (g : List GateEntry) (a : List ApiEntry). Each (RisesInGate) g) l g a c.in_default-first_not_rising.ensures), inr (unbroken (FitsStage) c.args.h.now.gates (moved (λ (l : ℕ) (g : List GateEntry) (a : List ApiEntry). Each (FitsStage) g) l g a c.in_default-first_unfit_spec.ensures), inr (unbroken (FollowsLockedSpec) c.args.h.now.gates (moved (λ (l : ℕ) (g : List GateEntry) (a : List ApiEntry). Each (FollowsLockedSpec) g) l g a c.in_default-first_unripe_removal.ensures), inl (refl, refl, first))))))))
 
-pub returns-in-Some-first_mixed_kind-clause-broken : goal.returns-in-Some-first_mixed_kind-clause-broken
-returns-in-Some-first_mixed_kind-clause-broken c =
+pub returns-in-Ok-Some-clause-broken : goal.returns-in-Ok-Some-clause-broken
+returns-in-Ok-Some-clause-broken c =
     let l : c.in-Some.last ≡ last_of c.args.h.now = sym c.in-Some.ensures.some.1 in
     let g : c.items-gates.result.now ≡ c.args.h.now.gates = c.items-gates.ensures ∙ ap (λ (d : Dated). d.gates) c.h.view_is in
     let a : c.items-apis.result.now ≡ c.args.h.now.apis = c.items-apis.ensures ∙ ap (λ (d : Dated). d.apis) c.h.view_is in
     let all : c.in-Ok-new.all ≡ c.items-apis.result.now = c.in-Ok-new.ensures in
-    let first : IsFirst (Breaks (NamesItsKind) c.args.h.now.apis) c.in-Some-first_mixed_kind.index = moved (λ (l : ℕ) (g : List GateEntry) (a : List ApiEntry). IsFirst (Breaks (NamesItsKind) a) c.in-Some-first_mixed_kind.index) l g a c.in-Some-first_mixed_kind.ensures in
-    subst (IsFaultOf c.args.h.now) (sym c.broken-in-Some-first_mixed_kind.ensures) (inr ((λ n top. top.1 c.in-Some.ensures.some.0), inr (unbroken (IsGateBy (last_of c.args.h.now)) c.args.h.now.gates (moved (λ (l : ℕ) (g : List GateEntry) (a : List ApiEntry). Each (IsGateBy l) g) l g a c.in_default-first_late_gate.ensures), inr (unbroken (IsApiBy (last_of c.args.h.now)) c.args.h.now.apis (moved (λ (l : ℕ) (g : List GateEntry) (a : List ApiEntry). Each (IsApiBy l) a) l g a c.in_default-first_late_api.ensures), inr (unbroken (RisesInGate) c.args.h.now.gates (moved (λ (l : ℕ) (g : List GateEntry) (a : List ApiEntry). Each (RisesInGate) g) l g a c.in_default-first_not_rising.ensures), inr (unbroken (FitsStage) c.args.h.now.gates (moved (λ (l : ℕ) (g : List GateEntry) (a : List ApiEntry). Each (FitsStage) g) l g a c.in_default-first_unfit_spec.ensures), inr (unbroken (FollowsLockedSpec) c.args.h.now.gates (moved (λ (l : ℕ) (g : List GateEntry) (a : List ApiEntry). Each (FollowsLockedSpec) g) l g a c.in_default-first_unripe_removal.ensures), inr (unbroken (StandsInOrder) c.args.h.now.apis (moved (λ (l : ℕ) (g : List GateEntry) (a : List ApiEntry). Each (StandsInOrder) a) l g a c.in_default-first_out_of_order.ensures), inl (refl, refl, first)))))))))
+    let first : IsFirst (Breaks (NamesItsKind) c.args.h.now.apis) c.in-Ok-Some.index = moved (λ (l : ℕ) (g : List GateEntry) (a : List ApiEntry). IsFirst (Breaks (NamesItsKind) a) c.in-Ok-Some.index) l g a (rw c.in-Ok-Some.field-0-is at c.in-Ok-Some.ensures) in
+    subst (IsFaultOf c.args.h.now) (sym c.broken-in-Ok-Some.ensures) (inr ((λ n top. top.1 c.in-Some.ensures.some.0), inr (unbroken (IsGateBy (last_of c.args.h.now)) c.args.h.now.gates (moved (λ (l : ℕ) (g : List GateEntry) (a : List ApiEntry). Each (IsGateBy l) g) l g a c.in_default-first_late_gate.ensures), inr (unbroken (IsApiBy (last_of c.args.h.now)) c.args.h.now.apis (moved (λ (l : ℕ) (g : List GateEntry) (a : List ApiEntry). Each (IsApiBy l) a) l g a c.in_default-first_late_api.ensures), inr (unbroken (RisesInGate) c.args.h.now.gates (moved (λ (l : ℕ) (g : List GateEntry) (a : List ApiEntry). Each (RisesInGate) g) l g a c.in_default-first_not_rising.ensures), inr (unbroken (FitsStage) c.args.h.now.gates (moved (λ (l : ℕ) (g : List GateEntry) (a : List ApiEntry). Each (FitsStage) g) l g a c.in_default-first_unfit_spec.ensures), inr (unbroken (FollowsLockedSpec) c.args.h.now.gates (moved (λ (l : ℕ) (g : List GateEntry) (a : List ApiEntry). Each (FollowsLockedSpec) g) l g a c.in_default-first_unripe_removal.ensures), inr (unbroken (StandsInOrder) c.args.h.now.apis (moved (λ (l : ℕ) (g : List GateEntry) (a : List ApiEntry). Each (StandsInOrder) a) l g a c.in_default-first_out_of_order.ensures), inl (refl, refl, first)))))))))
 
 pub returns-in-Some-first_unfair_deprecation-clause-broken : goal.returns-in-Some-first_unfair_deprecation-clause-broken
 returns-in-Some-first_unfair_deprecation-clause-broken c =
@@ -84,7 +84,7 @@ returns-in-Some-first_unfair_deprecation-clause-broken c =
     let a : c.items-apis.result.now ≡ c.args.h.now.apis = c.items-apis.ensures ∙ ap (λ (d : Dated). d.apis) c.h.view_is in
     let all : c.in-Ok-new.all ≡ c.items-apis.result.now = c.in-Ok-new.ensures in
     let first : IsFirst (Breaks (DeprecatesFairly c.args.h.now.apis) c.args.h.now.apis) c.in-Some-first_unfair_deprecation.index = moved (λ (l : ℕ) (g : List GateEntry) (a : List ApiEntry). IsFirst (Breaks (DeprecatesFairly a) a) c.in-Some-first_unfair_deprecation.index) l g a (subst (λ (d : List ApiEntry). IsFirst (Breaks (DeprecatesFairly d) c.items-apis.result.now) c.in-Some-first_unfair_deprecation.index) all c.in-Some-first_unfair_deprecation.ensures) in
-    subst (IsFaultOf c.args.h.now) (sym c.broken-in-Some-first_unfair_deprecation.ensures) (inr ((λ n top. top.1 c.in-Some.ensures.some.0), inr (unbroken (IsGateBy (last_of c.args.h.now)) c.args.h.now.gates (moved (λ (l : ℕ) (g : List GateEntry) (a : List ApiEntry). Each (IsGateBy l) g) l g a c.in_default-first_late_gate.ensures), inr (unbroken (IsApiBy (last_of c.args.h.now)) c.args.h.now.apis (moved (λ (l : ℕ) (g : List GateEntry) (a : List ApiEntry). Each (IsApiBy l) a) l g a c.in_default-first_late_api.ensures), inr (unbroken (RisesInGate) c.args.h.now.gates (moved (λ (l : ℕ) (g : List GateEntry) (a : List ApiEntry). Each (RisesInGate) g) l g a c.in_default-first_not_rising.ensures), inr (unbroken (FitsStage) c.args.h.now.gates (moved (λ (l : ℕ) (g : List GateEntry) (a : List ApiEntry). Each (FitsStage) g) l g a c.in_default-first_unfit_spec.ensures), inr (unbroken (FollowsLockedSpec) c.args.h.now.gates (moved (λ (l : ℕ) (g : List GateEntry) (a : List ApiEntry). Each (FollowsLockedSpec) g) l g a c.in_default-first_unripe_removal.ensures), inr (unbroken (StandsInOrder) c.args.h.now.apis (moved (λ (l : ℕ) (g : List GateEntry) (a : List ApiEntry). Each (StandsInOrder) a) l g a c.in_default-first_out_of_order.ensures), inr (unbroken (NamesItsKind) c.args.h.now.apis (moved (λ (l : ℕ) (g : List GateEntry) (a : List ApiEntry). Each (NamesItsKind) a) l g a c.in_default-first_mixed_kind.ensures), inl (refl, refl, first))))))))))
+    subst (IsFaultOf c.args.h.now) (sym c.broken-in-Some-first_unfair_deprecation.ensures) (inr ((λ n top. top.1 c.in-Some.ensures.some.0), inr (unbroken (IsGateBy (last_of c.args.h.now)) c.args.h.now.gates (moved (λ (l : ℕ) (g : List GateEntry) (a : List ApiEntry). Each (IsGateBy l) g) l g a c.in_default-first_late_gate.ensures), inr (unbroken (IsApiBy (last_of c.args.h.now)) c.args.h.now.apis (moved (λ (l : ℕ) (g : List GateEntry) (a : List ApiEntry). Each (IsApiBy l) a) l g a c.in_default-first_late_api.ensures), inr (unbroken (RisesInGate) c.args.h.now.gates (moved (λ (l : ℕ) (g : List GateEntry) (a : List ApiEntry). Each (RisesInGate) g) l g a c.in_default-first_not_rising.ensures), inr (unbroken (FitsStage) c.args.h.now.gates (moved (λ (l : ℕ) (g : List GateEntry) (a : List ApiEntry). Each (FitsStage) g) l g a c.in_default-first_unfit_spec.ensures), inr (unbroken (FollowsLockedSpec) c.args.h.now.gates (moved (λ (l : ℕ) (g : List GateEntry) (a : List ApiEntry). Each (FollowsLockedSpec) g) l g a c.in_default-first_unripe_removal.ensures), inr (unbroken (StandsInOrder) c.args.h.now.apis (moved (λ (l : ℕ) (g : List GateEntry) (a : List ApiEntry). Each (StandsInOrder) a) l g a c.in_default-first_out_of_order.ensures), inr (unbroken (NamesItsKind) c.args.h.now.apis (moved (λ (l : ℕ) (g : List GateEntry) (a : List ApiEntry). Each (NamesItsKind) a) l g a (rw c.in-Ok-None.field-0-is at c.in-Ok-None.ensures)), inl (refl, refl, first))))))))))
 
 pub returns-in-Some-first_unplanned-clause-broken : goal.returns-in-Some-first_unplanned-clause-broken
 returns-in-Some-first_unplanned-clause-broken c =
@@ -93,7 +93,7 @@ returns-in-Some-first_unplanned-clause-broken c =
     let a : c.items-apis.result.now ≡ c.args.h.now.apis = c.items-apis.ensures ∙ ap (λ (d : Dated). d.apis) c.h.view_is in
     let all : c.in-Ok-new.all ≡ c.items-apis.result.now = c.in-Ok-new.ensures in
     let first : IsFirst (Breaks (KeepsPlan c.args.h.now.apis (last_of c.args.h.now)) c.args.h.now.apis) c.in-Some-first_unplanned.index = moved (λ (l : ℕ) (g : List GateEntry) (a : List ApiEntry). IsFirst (Breaks (KeepsPlan a l) a) c.in-Some-first_unplanned.index) l g a (subst (λ (d : List ApiEntry). IsFirst (Breaks (KeepsPlan d c.in-Some.last) c.items-apis.result.now) c.in-Some-first_unplanned.index) all c.in-Some-first_unplanned.ensures) in
-    subst (IsFaultOf c.args.h.now) (sym c.broken-in-Some-first_unplanned.ensures) (inr ((λ n top. top.1 c.in-Some.ensures.some.0), inr (unbroken (IsGateBy (last_of c.args.h.now)) c.args.h.now.gates (moved (λ (l : ℕ) (g : List GateEntry) (a : List ApiEntry). Each (IsGateBy l) g) l g a c.in_default-first_late_gate.ensures), inr (unbroken (IsApiBy (last_of c.args.h.now)) c.args.h.now.apis (moved (λ (l : ℕ) (g : List GateEntry) (a : List ApiEntry). Each (IsApiBy l) a) l g a c.in_default-first_late_api.ensures), inr (unbroken (RisesInGate) c.args.h.now.gates (moved (λ (l : ℕ) (g : List GateEntry) (a : List ApiEntry). Each (RisesInGate) g) l g a c.in_default-first_not_rising.ensures), inr (unbroken (FitsStage) c.args.h.now.gates (moved (λ (l : ℕ) (g : List GateEntry) (a : List ApiEntry). Each (FitsStage) g) l g a c.in_default-first_unfit_spec.ensures), inr (unbroken (FollowsLockedSpec) c.args.h.now.gates (moved (λ (l : ℕ) (g : List GateEntry) (a : List ApiEntry). Each (FollowsLockedSpec) g) l g a c.in_default-first_unripe_removal.ensures), inr (unbroken (StandsInOrder) c.args.h.now.apis (moved (λ (l : ℕ) (g : List GateEntry) (a : List ApiEntry). Each (StandsInOrder) a) l g a c.in_default-first_out_of_order.ensures), inr (unbroken (NamesItsKind) c.args.h.now.apis (moved (λ (l : ℕ) (g : List GateEntry) (a : List ApiEntry). Each (NamesItsKind) a) l g a c.in_default-first_mixed_kind.ensures), inr (unbroken (DeprecatesFairly c.args.h.now.apis) c.args.h.now.apis (moved (λ (l : ℕ) (g : List GateEntry) (a : List ApiEntry). Each (DeprecatesFairly a) a) l g a (subst (λ (d : List ApiEntry). Each (DeprecatesFairly d) c.items-apis.result.now) all c.in_default-first_unfair_deprecation.ensures)), inl (refl, refl, first)))))))))))
+    subst (IsFaultOf c.args.h.now) (sym c.broken-in-Some-first_unplanned.ensures) (inr ((λ n top. top.1 c.in-Some.ensures.some.0), inr (unbroken (IsGateBy (last_of c.args.h.now)) c.args.h.now.gates (moved (λ (l : ℕ) (g : List GateEntry) (a : List ApiEntry). Each (IsGateBy l) g) l g a c.in_default-first_late_gate.ensures), inr (unbroken (IsApiBy (last_of c.args.h.now)) c.args.h.now.apis (moved (λ (l : ℕ) (g : List GateEntry) (a : List ApiEntry). Each (IsApiBy l) a) l g a c.in_default-first_late_api.ensures), inr (unbroken (RisesInGate) c.args.h.now.gates (moved (λ (l : ℕ) (g : List GateEntry) (a : List ApiEntry). Each (RisesInGate) g) l g a c.in_default-first_not_rising.ensures), inr (unbroken (FitsStage) c.args.h.now.gates (moved (λ (l : ℕ) (g : List GateEntry) (a : List ApiEntry). Each (FitsStage) g) l g a c.in_default-first_unfit_spec.ensures), inr (unbroken (FollowsLockedSpec) c.args.h.now.gates (moved (λ (l : ℕ) (g : List GateEntry) (a : List ApiEntry). Each (FollowsLockedSpec) g) l g a c.in_default-first_unripe_removal.ensures), inr (unbroken (StandsInOrder) c.args.h.now.apis (moved (λ (l : ℕ) (g : List GateEntry) (a : List ApiEntry). Each (StandsInOrder) a) l g a c.in_default-first_out_of_order.ensures), inr (unbroken (NamesItsKind) c.args.h.now.apis (moved (λ (l : ℕ) (g : List GateEntry) (a : List ApiEntry). Each (NamesItsKind) a) l g a (rw c.in-Ok-None.field-0-is at c.in-Ok-None.ensures)), inr (unbroken (DeprecatesFairly c.args.h.now.apis) c.args.h.now.apis (moved (λ (l : ℕ) (g : List GateEntry) (a : List ApiEntry). Each (DeprecatesFairly a) a) l g a (subst (λ (d : List ApiEntry). Each (DeprecatesFairly d) c.items-apis.result.now) all c.in_default-first_unfair_deprecation.ensures)), inl (refl, refl, first)))))))))))
 
 pub returns-in-Some-first_early_forgetting-clause-broken : goal.returns-in-Some-first_early_forgetting-clause-broken
 returns-in-Some-first_early_forgetting-clause-broken c =
@@ -102,7 +102,7 @@ returns-in-Some-first_early_forgetting-clause-broken c =
     let a : c.items-apis.result.now ≡ c.args.h.now.apis = c.items-apis.ensures ∙ ap (λ (d : Dated). d.apis) c.h.view_is in
     let all : c.in-Ok-new.all ≡ c.items-apis.result.now = c.in-Ok-new.ensures in
     let first : IsFirst (Breaks (ForgetsLate c.args.h.now.apis) c.args.h.now.apis) c.in-Some-first_early_forgetting.index = moved (λ (l : ℕ) (g : List GateEntry) (a : List ApiEntry). IsFirst (Breaks (ForgetsLate a) a) c.in-Some-first_early_forgetting.index) l g a (subst (λ (d : List ApiEntry). IsFirst (Breaks (ForgetsLate d) c.items-apis.result.now) c.in-Some-first_early_forgetting.index) all c.in-Some-first_early_forgetting.ensures) in
-    subst (IsFaultOf c.args.h.now) (sym c.broken-in-Some-first_early_forgetting.ensures) (inr ((λ n top. top.1 c.in-Some.ensures.some.0), inr (unbroken (IsGateBy (last_of c.args.h.now)) c.args.h.now.gates (moved (λ (l : ℕ) (g : List GateEntry) (a : List ApiEntry). Each (IsGateBy l) g) l g a c.in_default-first_late_gate.ensures), inr (unbroken (IsApiBy (last_of c.args.h.now)) c.args.h.now.apis (moved (λ (l : ℕ) (g : List GateEntry) (a : List ApiEntry). Each (IsApiBy l) a) l g a c.in_default-first_late_api.ensures), inr (unbroken (RisesInGate) c.args.h.now.gates (moved (λ (l : ℕ) (g : List GateEntry) (a : List ApiEntry). Each (RisesInGate) g) l g a c.in_default-first_not_rising.ensures), inr (unbroken (FitsStage) c.args.h.now.gates (moved (λ (l : ℕ) (g : List GateEntry) (a : List ApiEntry). Each (FitsStage) g) l g a c.in_default-first_unfit_spec.ensures), inr (unbroken (FollowsLockedSpec) c.args.h.now.gates (moved (λ (l : ℕ) (g : List GateEntry) (a : List ApiEntry). Each (FollowsLockedSpec) g) l g a c.in_default-first_unripe_removal.ensures), inr (unbroken (StandsInOrder) c.args.h.now.apis (moved (λ (l : ℕ) (g : List GateEntry) (a : List ApiEntry). Each (StandsInOrder) a) l g a c.in_default-first_out_of_order.ensures), inr (unbroken (NamesItsKind) c.args.h.now.apis (moved (λ (l : ℕ) (g : List GateEntry) (a : List ApiEntry). Each (NamesItsKind) a) l g a c.in_default-first_mixed_kind.ensures), inr (unbroken (DeprecatesFairly c.args.h.now.apis) c.args.h.now.apis (moved (λ (l : ℕ) (g : List GateEntry) (a : List ApiEntry). Each (DeprecatesFairly a) a) l g a (subst (λ (d : List ApiEntry). Each (DeprecatesFairly d) c.items-apis.result.now) all c.in_default-first_unfair_deprecation.ensures)), inr (unbroken (KeepsPlan c.args.h.now.apis (last_of c.args.h.now)) c.args.h.now.apis (moved (λ (l : ℕ) (g : List GateEntry) (a : List ApiEntry). Each (KeepsPlan a l) a) l g a (subst (λ (d : List ApiEntry). Each (KeepsPlan d c.in-Some.last) c.items-apis.result.now) all c.in_default-first_unplanned.ensures)), inl (refl, refl, first))))))))))))
+    subst (IsFaultOf c.args.h.now) (sym c.broken-in-Some-first_early_forgetting.ensures) (inr ((λ n top. top.1 c.in-Some.ensures.some.0), inr (unbroken (IsGateBy (last_of c.args.h.now)) c.args.h.now.gates (moved (λ (l : ℕ) (g : List GateEntry) (a : List ApiEntry). Each (IsGateBy l) g) l g a c.in_default-first_late_gate.ensures), inr (unbroken (IsApiBy (last_of c.args.h.now)) c.args.h.now.apis (moved (λ (l : ℕ) (g : List GateEntry) (a : List ApiEntry). Each (IsApiBy l) a) l g a c.in_default-first_late_api.ensures), inr (unbroken (RisesInGate) c.args.h.now.gates (moved (λ (l : ℕ) (g : List GateEntry) (a : List ApiEntry). Each (RisesInGate) g) l g a c.in_default-first_not_rising.ensures), inr (unbroken (FitsStage) c.args.h.now.gates (moved (λ (l : ℕ) (g : List GateEntry) (a : List ApiEntry). Each (FitsStage) g) l g a c.in_default-first_unfit_spec.ensures), inr (unbroken (FollowsLockedSpec) c.args.h.now.gates (moved (λ (l : ℕ) (g : List GateEntry) (a : List ApiEntry). Each (FollowsLockedSpec) g) l g a c.in_default-first_unripe_removal.ensures), inr (unbroken (StandsInOrder) c.args.h.now.apis (moved (λ (l : ℕ) (g : List GateEntry) (a : List ApiEntry). Each (StandsInOrder) a) l g a c.in_default-first_out_of_order.ensures), inr (unbroken (NamesItsKind) c.args.h.now.apis (moved (λ (l : ℕ) (g : List GateEntry) (a : List ApiEntry). Each (NamesItsKind) a) l g a (rw c.in-Ok-None.field-0-is at c.in-Ok-None.ensures)), inr (unbroken (DeprecatesFairly c.args.h.now.apis) c.args.h.now.apis (moved (λ (l : ℕ) (g : List GateEntry) (a : List ApiEntry). Each (DeprecatesFairly a) a) l g a (subst (λ (d : List ApiEntry). Each (DeprecatesFairly d) c.items-apis.result.now) all c.in_default-first_unfair_deprecation.ensures)), inr (unbroken (KeepsPlan c.args.h.now.apis (last_of c.args.h.now)) c.args.h.now.apis (moved (λ (l : ℕ) (g : List GateEntry) (a : List ApiEntry). Each (KeepsPlan a l) a) l g a (subst (λ (d : List ApiEntry). Each (KeepsPlan d c.in-Some.last) c.items-apis.result.now) all c.in_default-first_unplanned.ensures)), inl (refl, refl, first))))))))))))
 
 pub returns-clause-ok : goal.returns-clause-ok
 returns-clause-ok c =
@@ -118,7 +118,7 @@ returns-clause-ok c =
       gates_fit_stages = moved (λ (l : ℕ) (g : List GateEntry) (a : List ApiEntry). Each (FitsStage) g) l g a c.in_default-first_unfit_spec.ensures;
       gates_end_locked = moved (λ (l : ℕ) (g : List GateEntry) (a : List ApiEntry). Each (FollowsLockedSpec) g) l g a c.in_default-first_unripe_removal.ensures;
       versions_in_order = moved (λ (l : ℕ) (g : List GateEntry) (a : List ApiEntry). Each (StandsInOrder) a) l g a c.in_default-first_out_of_order.ensures;
-      kinds_apart = moved (λ (l : ℕ) (g : List GateEntry) (a : List ApiEntry). Each (NamesItsKind) a) l g a c.in_default-first_mixed_kind.ensures;
+      kinds_apart = moved (λ (l : ℕ) (g : List GateEntry) (a : List ApiEntry). Each (NamesItsKind) a) l g a (rw c.in-Ok-None.field-0-is at c.in-Ok-None.ensures);
       deprecations_fair = moved (λ (l : ℕ) (g : List GateEntry) (a : List ApiEntry). Each (DeprecatesFairly a) a) l g a (subst (λ (d : List ApiEntry). Each (DeprecatesFairly d) c.items-apis.result.now) all c.in_default-first_unfair_deprecation.ensures);
       removals_planned = moved (λ (l : ℕ) (g : List GateEntry) (a : List ApiEntry). Each (KeepsPlan a l) a) l g a (subst (λ (d : List ApiEntry). Each (KeepsPlan d c.in-Some.last) c.items-apis.result.now) all c.in_default-first_unplanned.ensures);
       forgettings_late = moved (λ (l : ℕ) (g : List GateEntry) (a : List ApiEntry). Each (ForgetsLate a) a) l g a (subst (λ (d : List ApiEntry). Each (ForgetsLate d) c.items-apis.result.now) all c.in_default-first_early_forgetting.ensures);
