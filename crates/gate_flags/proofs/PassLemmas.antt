@@ -32,7 +32,7 @@ fine_more Fine ps k p below is fine here = All-more Fine ps k p below fine (subs
 pub fine_all : (Fine : FlagPiece → Type 0) (ps : List FlagPiece) (k : ℕ) → length ps ≤ k → All Fine (take k ps) → All Fine ps
 fine_all Fine ps k whole fine = subst (λ qs. All Fine qs) (take_all k ps whole) fine
 
-first_refutes : (Fine Faulty : FlagPiece → Type 0) (ps : List FlagPiece) (place : ℕ) → ((p : FlagPiece) → Faulty p → Fine p → ⊥) → IsFirst Fine Faulty ps place → All Fine ps → ⊥
+pub first_refutes : (Fine Faulty : FlagPiece → Type 0) (ps : List FlagPiece) (place : ℕ) → ((p : FlagPiece) → Faulty p → Fine p → ⊥) → IsFirst Fine Faulty ps place → All Fine ps → ⊥
 first_refutes Fine Faulty ps place apart first all =
     let there : Contains ps first.piece = subst (λ qs. Contains qs first.piece) (sym first.whole)
     (Contains-append_right first.before (first.piece ∷ first.after) first.piece (Contains-append_left (first.piece ∷ []) first.after first.piece (Contains-push [] first.piece))) in
@@ -41,14 +41,14 @@ first_refutes Fine Faulty ps place apart first all =
 no_boolean : (o : Option (List ℕ)) → o ≡ None → is_some (option_and_then bool_of o) ≡ true → ⊥
 no_boolean o none some = let e : is_some (option_and_then bool_of None) ≡ true = subst (λ v. is_some (option_and_then bool_of v) ≡ true) none some in cc
 
-fault_refutes : (p : FlagPiece) (c : GateCause) → HasFault p c → IsAssignment p → ⊥
+pub fault_refutes : (p : FlagPiece) (c : GateCause) → HasFault p c → IsAssignment p → ⊥
 fault_refutes p Missing h a = no_boolean p.value h a
 fault_refutes p BadBool h a = let e : is_some {T = Bool} None ≡ true = subst (λ o. is_some o ≡ true) h.1 a in cc
 fault_refutes p Unknown h a = h
 fault_refutes p PreAlpha h a = h
 fault_refutes p (Locked d) h a = h
 
-refusal_refutes : (entries : List GateEntry) (e : ℕ) (p : FlagPiece) (c : GateCause) → RisesInDate entries → IsRefused entries e p c → IsAccepted (cutoff entries e) p → ⊥
+pub refusal_refutes : (entries : List GateEntry) (e : ℕ) (p : FlagPiece) (c : GateCause) → RisesInDate entries → IsRefused entries e p c → IsAccepted (cutoff entries e) p → ⊥
 refusal_refutes entries e p Missing up h a = h
 refusal_refutes entries e p BadBool up h a = h
 refusal_refutes entries e p Unknown up h (inl all) = h.0 all

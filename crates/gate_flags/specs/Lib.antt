@@ -3,3 +3,4 @@ pub mod Pieces
 pub mod Values
 pub mod Flags
 pub mod Lookups
+pub mod Laws

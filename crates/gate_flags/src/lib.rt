@@ -18,5 +18,5 @@ mod word;
 
 pub use fault::{GateCause, GateFault};
 pub use flags::gate_values;
-pub use law::emulation_of_gates;
+pub use law::{emulation_of_gates, text_has_one_answer};
 pub use values::{GateRow, GateValues, RemovedGate};
