@@ -17,7 +17,7 @@ use minor_version::{Minor, Text};
 use std::alloc::Global;
 
 /// For how many releases a removed version is still read.
-const MEMORY: u16 = 3;
+const READABLE_RELEASES: u16 = 3;
 
 /// The first entry dated after the last release (HR2).
 pub fn first_late_api(last: Minor, entries: &[ApiEntry]) -> Option<u64>
@@ -272,7 +272,7 @@ fn is_late(previous: Option<&ApiEntry>, entry: &ApiEntry) -> bool
         None => false,
         Some(y) => {
             matches!(y.change, ApiChange::Removed)
-                && y.since.number() + MEMORY <= entry.since.number()
+                && y.since.number() + READABLE_RELEASES <= entry.since.number()
         }
     }
 }
