@@ -71,6 +71,14 @@ def one_gate_entries():
         since += 1
 
 
+def gate_entries():
+    """Gates of one entry each, spread over the releases."""
+    index = 0
+    while True:
+        yield gate(f"Gate{index}", index % 20 + 1, 'stage="BETA", default=true')
+        index += 1
+
+
 def version_entries():
     for word in prerelease_words():
         yield introduced("demo.example", word, "widgets", 1)
@@ -111,6 +119,7 @@ def bad_last_parts():
 # For each kind the array, what stands first, the entries of which as many are taken as fit, and what stands last.
 KINDS = {
     "lawful": ("api", lambda: ("", lawful_entries(), "")),
+    "gates": ("gate", lambda: ("", gate_entries(), "")),
     "one_gate": ("gate", lambda: ("", one_gate_entries(), "")),
     "versions": ("api", lambda: ("", version_entries(), "")),
     "resources": ("api", lambda: ("", resource_entries(), "")),
