@@ -4,6 +4,7 @@
 
 mod count;
 mod memory;
+mod name_map;
 mod names;
 mod sequence;
 #[cfg(test)]
@@ -11,5 +12,6 @@ mod tests;
 
 pub use count::raised;
 pub use memory::Memory;
+pub use name_map::{NameMap, put, value_of};
 pub use names::{is_camel_word, is_dotted_labels, is_label, is_lower_word, is_pascal_word};
 pub use sequence::Sequence;

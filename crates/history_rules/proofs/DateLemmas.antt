@@ -10,9 +10,9 @@ use Rattle.std.proofs.lemmas.List.Quantifiers.{Any-push}
 use Rattle.lifecycle.specs.Entry.{IsKnownOf}
 use Rattle.lifecycle.specs.declared.entry.ApiEntry.{ApiEntry}
 use Rattle.schemas.specs.ApiRules.{name_of}
-use Rattle.history_rules.specs.NameMap.{value_at, is_same_name}
+use Rattle.basis.specs.NameMap.{value_at, is_same_name}
 use Rattle.history_rules.specs.Dates.{IsEvent, HasEarliest, PutsEarlier}
-use Rattle.history_rules.proofs.NameLemmas.{same_parts}
+use Rattle.basis.proofs.NameLemmas.{same_parts}
 use Rattle.history_rules.specs.declared.dates.Event.{Event}
 
 any_uncons : {E : Type 0} (P : E → Type 0) (x : E) (xs : List E) (k : ℕ) (y : E) → k < length (x ∷ xs) → get_or (x ∷ xs) k y ≡ y → P y → P x ⊎ Any P xs

@@ -11,9 +11,9 @@ use Rattle.lifecycle.specs.declared.entry.ApiChange.{ApiChange}
 use Rattle.lifecycle.specs.declared.entry.ApiChange.TheVariants.{Introduced, Deprecated, Removed, Forgotten}
 use Rattle.lifecycle.specs.declared.entry.ApiEntry.{ApiEntry}
 use Rattle.schemas.specs.ApiRules.{name_of, IsForgotten, IsInFavourOf, IsForgottenBefore, AreForgottenFirst}
-use Rattle.history_rules.specs.NameMap.{value_at, is_same_name}
+use Rattle.basis.specs.NameMap.{value_at, is_same_name}
 use Rattle.history_rules.specs.Followers.{HasFollowers, PutsLater}
-use Rattle.history_rules.proofs.NameLemmas.{same_parts}
+use Rattle.basis.proofs.NameLemmas.{same_parts}
 
 pub all_unpushed : {E : Type 0} (P : E → Type 0) (xs : List E) (y : E) → All P (xs ++ y ∷ []) → All P xs × P y
 all_unpushed {E} P xs y all = All-pop P (xs ++ y ∷ []) xs (Some y) refl all

@@ -12,9 +12,9 @@ use Rattle.lifecycle.specs.declared.entry.ApiChange.{ApiChange}
 use Rattle.lifecycle.specs.declared.entry.ApiChange.TheVariants.{Introduced, Deprecated, Removed, Forgotten}
 use Rattle.lifecycle.specs.declared.entry.ApiEntry.{ApiEntry}
 use Rattle.schemas.specs.ApiRules.{AgreeInKind, DifferInKind, KeepKindsApart}
-use Rattle.history_rules.specs.NameMap.{value_at, is_same_name}
+use Rattle.basis.specs.NameMap.{value_at, is_same_name}
 use Rattle.history_rules.specs.Kinds.{HasChanges, HasOtherKind, HasResources, PutsChange, PutsResource}
-use Rattle.history_rules.proofs.NameLemmas.{same_bytes, same_parts}
+use Rattle.basis.proofs.NameLemmas.{same_bytes, same_parts}
 use Rattle.history_rules.proofs.FollowerLemmas.{all_unpushed}
 
 -- the change is no introduction

@@ -1,4 +1,3 @@
-pub mod NameLemmas
 pub mod LinkLemmas
 pub mod DateLemmas
 pub mod FollowerLemmas

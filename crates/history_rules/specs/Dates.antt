@@ -6,7 +6,7 @@ use Rattle.lifecycle.specs.Entry.{IsIntroduction, IsRemoval, IsKnownOf}
 use Rattle.lifecycle.specs.declared.entry.ApiChange.{ApiChange}
 use Rattle.lifecycle.specs.declared.entry.ApiEntry.{ApiEntry}
 use Rattle.schemas.specs.ApiRules.{IsForgetting, name_of}
-use Rattle.history_rules.specs.NameMap.{value_at, is_same_name}
+use Rattle.basis.specs.NameMap.{value_at, is_same_name}
 use Rattle.history_rules.specs.declared.dates.Event.{Event}
 use Rattle.history_rules.specs.declared.dates.Event.TheVariants.{Introduction, Removal, Forgetting}
 

@@ -1,5 +1,4 @@
 pub mod Fault
-pub mod NameMap
 pub mod Previous
 pub mod Dates
 pub mod Followers

@@ -3,8 +3,7 @@ ghost use Rattle.std.specs.Prelude.{◌≡◌, ◌↔◌, ◌≤◌, ◌⊎◌, 
 ghost use Rattle.history_rules.specs.Dates.{HasEarliest, PutsEarlier};
 
 use crate::followers::{Followers, are_by, follow};
-use crate::name_map::{NameMap, put, value_of};
-use basis::Memory;
+use basis::{Memory, NameMap, put, value_of};
 use lifecycle::{ApiChange, ApiEntry};
 use minor_version::Minor;
 use std::alloc::Global;

@@ -1,6 +1,5 @@
 ghost use Rattle.std.specs.Prelude.{◌≡◌};
 
-use basis::Memory;
 use schemas::Array;
 use std::error::Error;
 use std::fmt;
@@ -27,12 +26,6 @@ impl fmt::Display for CheckFault {
 }
 
 impl Error for CheckFault {}
-
-impl From<Memory> for CheckFault {
-    fn from(_memory: Memory) -> CheckFault {
-        CheckFault::Memory
-    }
-}
 
 /// The fault of an entry that breaks the rule.
 pub fn broken(rule: u8, array: Array, index: u64) -> CheckFault

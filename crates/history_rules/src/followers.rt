@@ -6,8 +6,7 @@ ghost use Rattle.history_rules.specs.Dates.{HasEarliest};
 ghost use Rattle.history_rules.specs.Followers.{HasFollowers, PutsLater};
 
 use crate::dates::Event;
-use crate::name_map::{NameMap, put, value_of};
-use basis::Memory;
+use basis::{Memory, NameMap, put, value_of};
 use lifecycle::{ApiChange, ApiEntry};
 use minor_version::{Minor, Text};
 use std::alloc::Global;

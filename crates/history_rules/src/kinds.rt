@@ -3,12 +3,11 @@ ghost use Rattle.std.specs.Prelude.{◌≡◌, ◌↔◌, List, [], ◌∷◌, �
 ghost use Rattle.std.specs.Option.{option_copied};
 ghost use Rattle.lifecycle.specs.declared.entry.ApiEntry.{ApiEntry as TheEntry};
 ghost use Rattle.schemas.specs.ApiRules.{AgreeInKind, KeepKindsApart};
-ghost use Rattle.history_rules.specs.NameMap.{value_at};
+ghost use Rattle.basis.specs.NameMap.{value_at};
 ghost use Rattle.history_rules.specs.Kinds.{PutsChange, PutsResource};
 ghost use Rattle.history_rules.specs.KindsFields.{AreKindsOf};
 
-use crate::name_map::{NameMap, put, value_of};
-use basis::Memory;
+use basis::{Memory, NameMap, put, value_of};
 use lifecycle::{ApiChange, ApiEntry};
 use minor_version::Text;
 use std::alloc::Global;

@@ -9,7 +9,6 @@ mod fault;
 mod followers;
 mod gate_rules;
 mod kinds;
-mod name_map;
 mod previous;
 #[cfg(test)]
 mod tests;

@@ -4,8 +4,7 @@ ghost use Rattle.schemas.specs.GateRules.{previous_of_gate};
 ghost use Rattle.schemas.specs.ApiRules.{previous_of_version};
 ghost use Rattle.history_rules.specs.Previous.{AreLinked};
 
-use crate::name_map::{NameMap, put, value_of};
-use basis::Memory;
+use basis::{Memory, NameMap, put, value_of};
 use gate_spec::GateEntry;
 use lifecycle::ApiEntry;
 use std::alloc::Global;

@@ -1,6 +1,3 @@
-ghost use Rattle.std.specs.Prelude.{◌↔◌, IsTrue};
-ghost use Rattle.lifecycle.specs.Entry.{named, IsIntroduction, IsRemoval, IsKnownOf, IsIntroduced, IsRemoved, IsLive};
-
 use minor_version::{Minor, Text};
 
 /// What happens to a version of a resource.
@@ -42,49 +39,18 @@ pub struct ApiName<'a> {
     pub resource: &'a [u8],
 }
 
-impl ApiChange {
-    fn is_introduction(&self) -> bool
-        ensures { IsTrue result ↔ IsIntroduction self.now }
+impl ApiEntry {
+    ghost use Rattle.std.specs.Prelude.{◌≡◌};
+    ghost use Rattle.lifecycle.specs.Entry.{named, subject};
+
+    /// The version of which the entry speaks.
+    pub fn name(&self) -> ApiName<'_>
+        ensures { named result ≡ subject self.now }
     {
-        matches!(self, ApiChange::Introduced { .. })
+        ApiName {
+            group: self.group.bytes(),
+            version: self.version.bytes(),
+            resource: self.resource.bytes(),
+        }
     }
-
-    fn is_removal(&self) -> bool
-        ensures { IsTrue result ↔ IsRemoval self.now }
-    {
-        matches!(self, ApiChange::Removed)
-    }
-}
-
-fn is_known_of(entry: &ApiEntry, name: ApiName<'_>, e: Minor) -> bool
-    ensures { IsTrue result ↔ IsKnownOf (named name.entry) e entry.now }
-{
-    entry.group.bytes() == name.group
-        && entry.version.bytes() == name.version
-        && entry.resource.bytes() == name.resource
-        && entry.since <= e
-}
-
-fn is_introduced(entries: &[ApiEntry], name: ApiName<'_>, e: Minor) -> bool
-    ensures { IsTrue result ↔ IsIntroduced entries.now (named name.entry) e }
-{
-    entries
-        .iter()
-        .any(|x| is_known_of(x, name, e) && x.change.is_introduction())
-}
-
-/// Whether a removal of the version is dated at or before the release.
-pub fn is_removed(entries: &[ApiEntry], name: ApiName<'_>, e: Minor) -> bool
-    ensures { IsTrue result ↔ IsRemoved entries.now (named name.entry) e }
-{
-    entries
-        .iter()
-        .any(|x| is_known_of(x, name, e) && x.change.is_removal())
-}
-
-/// Whether the version is there at the release: introduced at or before it, and not removed.
-pub fn live_at(entries: &[ApiEntry], name: ApiName<'_>, e: Minor) -> bool
-    ensures { IsTrue result ↔ IsLive entries.now (named name.entry) e }
-{
-    is_introduced(entries, name, e) && !is_removed(entries, name, e)
 }

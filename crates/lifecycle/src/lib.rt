@@ -2,9 +2,13 @@
 #![tactic(auto)]
 
 mod entry;
+mod law;
+mod tables;
 #[cfg(test)]
 mod tests;
 mod version;
 
-pub use entry::{ApiChange, ApiEntry, ApiName, is_removed, live_at};
+pub use entry::{ApiChange, ApiEntry, ApiName};
+pub use law::emulation_of_versions;
+pub use tables::{Warning, decodable_at, live_at, warning_at};
 pub use version::{Level, VersionWord, version_word};

@@ -71,6 +71,21 @@ fn introduced(alloc: Global) -> Result<ApiChange, Fail> {
     })
 }
 
+fn deprecated(alloc: Global, removal: u16, replacement: &str) -> Result<ApiChange, Fail> {
+    Ok(ApiChange::Deprecated {
+        removal: from_number(removal).ok_or("removal")?,
+        replacement: Text::from_str(alloc, replacement)?,
+    })
+}
+
+fn widgets<'a>(version: &'a str) -> ApiName<'a> {
+    ApiName {
+        group: b"demo.example",
+        version: version.as_bytes(),
+        resource: b"widgets",
+    }
+}
+
 #[test]
 fn live_from_introduction_to_removal(rt: HostRuntime) -> Result<(), Fail> {
     let alloc = rt.alloc();
@@ -89,13 +104,44 @@ fn live_from_introduction_to_removal(rt: HostRuntime) -> Result<(), Fail> {
         ("v2", 33, false),
     ];
     for (version, e, want) in cases {
-        let name = ApiName {
-            group: b"demo.example",
-            version: version.as_bytes(),
-            resource: b"widgets",
-        };
         let e: Minor = from_number(e).ok_or("e")?;
-        assert_eq!(rt; live_at(&entries, name, e), want, "{version}");
+        assert_eq!(rt; live_at(&entries, widgets(version), e), want, "{version}");
+    }
+    Ok(())
+}
+
+// A version is read until it is forgotten, and warned of until it is removed. Of two deprecations the first in the list
+// counts, also where it is dated later.
+#[test]
+fn read_and_warned_of(rt: HostRuntime) -> Result<(), Fail> {
+    let alloc = rt.alloc();
+    let entries = [
+        entry(alloc, "v1beta1", 28, introduced(alloc)?)?,
+        entry(alloc, "v1beta1", 30, deprecated(alloc, 33, "v1")?)?,
+        entry(alloc, "v1beta1", 29, deprecated(alloc, 34, "v2")?)?,
+        entry(alloc, "v1beta1", 33, ApiChange::Removed)?,
+        entry(alloc, "v1beta1", 36, ApiChange::Forgotten)?,
+    ];
+    let cases = [
+        (27, false, 0, 0, ""),
+        (28, true, 0, 0, ""),
+        (29, true, 29, 34, "v2"),
+        (30, true, 30, 33, "v1"),
+        (33, true, 0, 0, ""),
+        (36, false, 0, 0, ""),
+    ];
+    for (k, decodable, since, removal, replacement) in cases {
+        let e: Minor = from_number(k).ok_or("e")?;
+        let name = widgets("v1beta1");
+        assert_eq!(rt; decodable_at(&entries, name, e), decodable, "{k}");
+        match warning_at(&entries, name, e) {
+            Some(warning) => {
+                assert_eq!(rt; warning.since.number(), since, "{k}");
+                assert_eq!(rt; warning.removal.number(), removal, "{k}");
+                assert_eq!(rt; warning.replacement, replacement.as_bytes(), "{k}");
+            }
+            None => assert_eq!(rt; since, 0, "{k}"),
+        }
     }
     Ok(())
 }

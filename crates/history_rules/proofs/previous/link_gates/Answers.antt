@@ -4,10 +4,10 @@ use Rattle.std.specs.Option.{option_copied}
 use Rattle.std.specs.Str.{bytes_eq}
 use Rattle.std.proofs.lemmas.Option.{slice_get_read}
 use Rattle.schemas.specs.Places.{last_passing}
-use Rattle.history_rules.specs.NameMap.{value_at, is_same_name}
+use Rattle.basis.specs.NameMap.{value_at, is_same_name}
 use Rattle.history_rules.specs.Previous.{AreLinked}
 use Rattle.schemas.specs.GateRules.{previous_of_gate}
-use Rattle.history_rules.proofs.NameLemmas.{one_part}
+use Rattle.basis.proofs.NameLemmas.{one_part}
 use Rattle.history_rules.proofs.LinkLemmas.{linked_none, linked_more, latest_more}
 use Rattle.history_rules.proofs.previous.link_gates.Goals as goal
 

@@ -3,7 +3,7 @@ use Rattle.std.specs.Option.{option_copied}
 use Rattle.std.specs.Str.{bytes_eq}
 use Rattle.schemas.specs.Places.{last_passing}
 use Rattle.schemas.specs.GateRules.{previous_of_gate}
-use Rattle.history_rules.specs.NameMap.{value_at}
+use Rattle.basis.specs.NameMap.{value_at}
 use Rattle.history_rules.specs.Previous.{AreLinked}
 use Rattle.history_rules.proofs.previous.link_gates.Given as goal
 

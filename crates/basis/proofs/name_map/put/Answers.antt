@@ -1,7 +1,7 @@
 use Rattle.std.proofs.Common.{ℕ, List, Bool, Some, cond, ap, ◌∙◌}
-use Rattle.history_rules.specs.NameMap.{value_at}
-use Rattle.history_rules.proofs.NameLemmas.{same_name}
-use Rattle.history_rules.proofs.name_map.put.Goals as goal
+use Rattle.basis.specs.NameMap.{value_at}
+use Rattle.basis.proofs.NameLemmas.{same_name}
+use Rattle.basis.proofs.name_map.put.Goals as goal
 
 pub returns-in-Ok : goal.returns-in-Ok
 returns-in-Ok g c = λ (x y z : List ℕ).

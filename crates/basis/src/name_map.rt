@@ -1,8 +1,8 @@
 //! Maps by names of three parts.
 ghost use Rattle.std.specs.Prelude.{◌≡◌, ℕ, List, [], None, OnOk, cond};
-ghost use Rattle.history_rules.specs.NameMap.{value_at, is_same_name};
+ghost use Rattle.basis.specs.NameMap.{value_at, is_same_name};
 
-use basis::Memory;
+use crate::memory::Memory;
 use std::collections::BTreeMap;
 
 /// A map by names of three parts.

@@ -1,0 +1,14 @@
+use Rattle.std.proofs.Common.{ap, sym, ◌∙◌}
+use Rattle.std.specs.Option.{option_and_then, option_copied}
+use Rattle.lifecycle.specs.Entry.{named}
+use Rattle.lifecycle.specs.Tables.{deprecation_of}
+use Rattle.lifecycle.proofs.TableLemmas.{warning_by}
+use Rattle.lifecycle.proofs.tables.warning_at.Goals as goal
+
+pub returns-in-Some : goal.returns-in-Some
+returns-in-Some c =
+    c.warning.ensures ∙ warning_by c.args.entries.now c.args.e (named c.args.name) _ (sym c.live_at.ensures.tables ∙ c.if-not-live_at.false) c.in-Some.ensures
+
+pub returns-in-None : goal.returns-in-None
+returns-in-None c =
+    warning_by c.args.entries.now c.args.e (named c.args.name) _ (sym c.live_at.ensures.tables ∙ c.if-not-live_at.false) c.in-None.ensures
