@@ -5,7 +5,7 @@ use Rattle.std.specs.declared.option.Option.{Option}
 use Rattle.serde_json.specs.Data.{Data}
 use Rattle.serde_json.specs.Written.{compact_text}
 use Rattle.gate_flags.specs.Flags.{IsFeatureText, IsTextFault}
-use Rattle.gate_flags.specs.Pieces.{pieces}
+use Rattle.flag_text.specs.Pieces.{pieces}
 use Rattle.gate_flags.specs.Values.{Gates, AreGateValues}
 use Rattle.gate_flags.specs.declared.fault.GateCause.{GateCause}
 use Rattle.gate_flags.specs.declared.fault.GateFault.TheVariants.{At}

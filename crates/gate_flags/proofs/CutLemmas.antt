@@ -3,7 +3,7 @@ use Rattle.std.proofs.Common.{◌≡◌, ◌↔◌, inl, inr, ℕ, Bool, List, [
 use Rattle.std.proofs.lemmas.Bool.{cases_Bool, cond-true, cond-false}
 use Rattle.gate_spec.specs.declared.entry.GateEntry.{GateEntry}
 use Rattle.gate_spec.specs.Gates.{cutoff}
-use Rattle.gate_flags.specs.Pieces.{FlagPiece}
+use Rattle.flag_text.specs.Pieces.{FlagPiece}
 use Rattle.gate_flags.specs.Values.{Gates, AreGateValues}
 use Rattle.gate_flags.specs.declared.values.GateRow.{GateRow}
 use Rattle.gate_flags.specs.declared.values.RemovedGate.{RemovedGate}

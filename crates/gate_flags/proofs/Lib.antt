@@ -1,4 +1,3 @@
-pub mod PieceLemmas
 pub mod LookupLemmas
 pub mod PassLemmas
 pub mod RowLemmas

@@ -1,4 +1,4 @@
--- A pass over pieces that stops at its first fault.
+-- Faults of pieces.
 use Rattle.std.proofs.Common.{◌≡◌, inl, inr, ℕ, ◌+◌, ◌<◌, ◌≤◌, Bool, true, List, [], ◌∷◌, ◌++◌, All, Contains, length, take, drop, get_or, Option, Some, None, Result, Ok, Err, IfErr, refl, sym, ◌∙◌, ap, subst}
 use Rattle.std.specs.Option.{is_some, option_and_then}
 use Rattle.std.proofs.lemmas.List.{take-append-drop, drop_more, take_all}
@@ -7,39 +7,19 @@ use Rattle.gate_spec.specs.declared.entry.GateEntry.{GateEntry}
 use Rattle.gate_spec.specs.declared.entry.SpecAt.TheVariants.{Found, Removed, Never, PreAlpha as ComesLater}
 use Rattle.gate_spec.specs.Gates.{RisesInDate, cutoff}
 use Rattle.gate_spec.proofs.GateLemmas.{spec_at_one}
-use Rattle.gate_flags.specs.Words.{bool_of}
-use Rattle.gate_flags.specs.Pieces.{FlagPiece, pieces, last_pieces}
-use Rattle.gate_flags.specs.Flags.{IsAssignment, IsAccepted, IsFeatureText, HasFault, IsRefused, IsFirst, IsFirstRefusal, IsTextFault}
+use Rattle.flag_text.specs.Words.{bool_of}
+use Rattle.flag_text.specs.declared.vocabulary.Vocabulary.TheVariants.{Go}
+use Rattle.flag_text.specs.Passes.{IsFirst}
+use Rattle.flag_text.proofs.PassLemmas.{first_refutes}
+use Rattle.flag_text.specs.Pieces.{FlagPiece, pieces, last_pieces}
+use Rattle.gate_flags.specs.Flags.{IsAssignment, IsAccepted, IsFeatureText, HasFault, IsRefused, IsFirstRefusal, IsTextFault}
 use Rattle.gate_flags.specs.declared.fault.GateCause.{GateCause}
 use Rattle.gate_flags.specs.declared.fault.GateCause.TheVariants.{Missing, BadBool, Unknown, PreAlpha, Locked}
 use Rattle.gate_flags.specs.declared.fault.GateFault.{GateFault}
 use Rattle.gate_flags.specs.declared.fault.GateFault.TheVariants.{Memory, At}
 
-pub first_at : (Fine Faulty : FlagPiece → Type 0) (ps : List FlagPiece) (k : ℕ) (p : FlagPiece) (place : ℕ) → k < length ps → p ≡ get_or ps k p → All Fine (take k ps) → Faulty p → p.place ≡ place → IsFirst Fine Faulty ps place
-first_at Fine Faulty ps k p place below is fine faulty at = record {
-  before = take k ps;
-  piece = p;
-  after = drop (k + 1) ps;
-  whole = sym (take-append-drop k ps) ∙ ap (λ s. take k ps ++ s) (drop_more ps k p below ∙ ap (λ q. q ∷ drop (k + 1) ps) (sym is));
-  fine = fine;
-  faulty = faulty;
-  at = at;
-}
-
-pub fine_more : (Fine : FlagPiece → Type 0) (ps : List FlagPiece) (k : ℕ) (p : FlagPiece) → k < length ps → p ≡ get_or ps k p → All Fine (take k ps) → Fine p → All Fine (take (k + 1) ps)
-fine_more Fine ps k p below is fine here = All-more Fine ps k p below fine (subst Fine is here)
-
-pub fine_all : (Fine : FlagPiece → Type 0) (ps : List FlagPiece) (k : ℕ) → length ps ≤ k → All Fine (take k ps) → All Fine ps
-fine_all Fine ps k whole fine = subst (λ qs. All Fine qs) (take_all k ps whole) fine
-
-pub first_refutes : (Fine Faulty : FlagPiece → Type 0) (ps : List FlagPiece) (place : ℕ) → ((p : FlagPiece) → Faulty p → Fine p → ⊥) → IsFirst Fine Faulty ps place → All Fine ps → ⊥
-first_refutes Fine Faulty ps place apart first all =
-    let there : Contains ps first.piece = subst (λ qs. Contains qs first.piece) (sym first.whole)
-    (Contains-append_right first.before (first.piece ∷ first.after) first.piece (Contains-append_left (first.piece ∷ []) first.after first.piece (Contains-push [] first.piece))) in
-    apart first.piece first.faulty (All-contains Fine ps first.piece all there)
-
-no_boolean : (o : Option (List ℕ)) → o ≡ None → is_some (option_and_then bool_of o) ≡ true → ⊥
-no_boolean o none some = let e : is_some (option_and_then bool_of None) ≡ true = subst (λ v. is_some (option_and_then bool_of v) ≡ true) none some in cc
+no_boolean : (o : Option (List ℕ)) → o ≡ None → is_some (option_and_then (bool_of Go) o) ≡ true → ⊥
+no_boolean o none some = let e : is_some (option_and_then (bool_of Go) None) ≡ true = subst (λ v. is_some (option_and_then (bool_of Go) v) ≡ true) none some in cc
 
 pub fault_refutes : (p : FlagPiece) (c : GateCause) → HasFault p c → IsAssignment p → ⊥
 fault_refutes p Missing h a = no_boolean p.value h a

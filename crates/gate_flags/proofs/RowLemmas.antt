@@ -19,9 +19,11 @@ use Rattle.gate_spec.specs.declared.entry.SpecAt.{SpecAt}
 use Rattle.gate_spec.specs.declared.entry.SpecAt.TheVariants.{Found, PreAlpha, Removed, Never}
 use Rattle.gate_spec.specs.Gates.{RisesInDate, cutoff, IsRemovedIn, IsSpecAt}
 use Rattle.gate_spec.proofs.GateLemmas.{spec_at_one}
-use Rattle.gate_flags.specs.Pieces.{FlagPiece, last_pieces}
+use Rattle.flag_text.specs.Pieces.{FlagPiece, last_pieces}
 use Rattle.gate_flags.specs.Values.{boolean_of, given, all_given, gate_value, IsRow, Gates, AreInOrder, AreGateValues}
-use Rattle.gate_flags.specs.Lookups.{spec_in, KnowsGates, HasBooleans, boolean_in, all_in, value_in, row_of, removed_of, rows_of, removed_gates_of}
+use Rattle.gate_flags.specs.Lookups.{spec_in, KnowsGates, all_in, value_in, row_of, removed_of, rows_of, removed_gates_of}
+use Rattle.flag_text.specs.Said.{HasSaid, said_in}
+use Rattle.flag_text.specs.declared.vocabulary.Vocabulary.TheVariants.{Go}
 use Rattle.gate_flags.specs.declared.known.Known.{Known}
 use Rattle.gate_flags.specs.declared.values.GateRow.{GateRow}
 use Rattle.gate_flags.specs.declared.values.RemovedGate.{RemovedGate}
@@ -79,16 +81,16 @@ and_then-option_map : {T U : Type 0} (f : T → Option U) (o : Option T) → opt
 and_then-option_map f None = refl
 and_then-option_map f (Some x) = refl
 
-given_in : (ps : List FlagPiece) (m : BTreeMap (List ℕ) (Option Bool)) (name : List ℕ) → HasBooleans ps m → boolean_in m name ≡ given ps name
+given_in : (ps : List FlagPiece) (m : BTreeMap (List ℕ) (Option Bool)) (name : List ℕ) → HasSaid Go ps m → said_in m name ≡ given ps name
 given_in ps m name has = ap (option_and_then (λ (b : Option Bool). b)) (has name) ∙ and_then-option_map boolean_of (find (λ p. bytes_eq p.name name) (last_pieces ps))
 
-all_given_in : (ps : List FlagPiece) (m : BTreeMap (List ℕ) (Option Bool)) (stage : Stage) → HasBooleans ps m → all_in m stage ≡ all_given ps stage
+all_given_in : (ps : List FlagPiece) (m : BTreeMap (List ℕ) (Option Bool)) (stage : Stage) → HasSaid Go ps m → all_in m stage ≡ all_given ps stage
 all_given_in ps m Alpha has = given_in ps m (codes "AllAlpha") has
 all_given_in ps m Beta has = given_in ps m (codes "AllBeta") has
 all_given_in ps m Ga has = refl
 all_given_in ps m Deprecated has = refl
 
-value_is : (ps : List FlagPiece) (m : BTreeMap (List ℕ) (Option Bool)) (name : List ℕ) (stage : Stage) (default : Bool) → HasBooleans ps m → value_in m name stage default ≡ gate_value ps name stage default
+value_is : (ps : List FlagPiece) (m : BTreeMap (List ℕ) (Option Bool)) (name : List ℕ) (stage : Stage) (default : Bool) → HasSaid Go ps m → value_in m name stage default ≡ gate_value ps name stage default
 value_is ps m name stage default has =
     ap (λ o. unwrap_or o (unwrap_or (all_in m stage) default)) (given_in ps m name has)
     ∙ ap (λ o. unwrap_or (given ps name) (unwrap_or o default)) (all_given_in ps m stage has)
@@ -148,7 +150,7 @@ module _ (entries : List GateEntry) (e : ℕ) (known : BTreeMap (List ℕ) Known
   names_rise : IsStrictlySortedBy (slice_cmp nat_cmp) (map (λ (k : Known). k.name.now) (values known))
   names_rise = subst (IsStrictlySortedBy (slice_cmp nat_cmp)) (names_are known.entries (λ key k h. name_at key k ((btree_map_get_iff nat_list_cmp_total exact_bytes known knows.order key k).1 h))) knows.order
 
-  pub rows_are : (ps : List FlagPiece) (m : BTreeMap (List ℕ) (Option Bool)) → RisesInDate entries → HasBooleans ps m → (row : GateRow) → Contains (rows_of m known) row ↔ IsRow (cutoff entries e) ps row
+  pub rows_are : (ps : List FlagPiece) (m : BTreeMap (List ℕ) (Option Bool)) → RisesInDate entries → HasSaid Go ps m → (row : GateRow) → Contains (rows_of m known) row ↔ IsRow (cutoff entries e) ps row
   rows_are ps m up has row = (
     λ h.
         let found = from_filter_map (λ k. row_of m k.name.now k.spec) (values known) row h in
@@ -185,7 +187,7 @@ module _ (entries : List GateEntry) (e : ℕ) (known : BTreeMap (List ℕ) Known
     removed = filter_map_rises (slice_cmp nat_cmp) (λ k. removed_of k.name.now k.spec) (λ r. r.name) (λ (k : Known). k.name.now) (λ k r h. (removed_from k.name.now k.spec r h).1) (values known) names_rise;
   }
 
-  pub values_are : (ps : List FlagPiece) (m : BTreeMap (List ℕ) (Option Bool)) (gates : Gates) → RisesInDate entries → HasBooleans ps m → gates.rows ≡ rows_of m known → gates.removed ≡ removed_gates_of known → AreGateValues (cutoff entries e) ps gates
+  pub values_are : (ps : List FlagPiece) (m : BTreeMap (List ℕ) (Option Bool)) (gates : Gates) → RisesInDate entries → HasSaid Go ps m → gates.rows ≡ rows_of m known → gates.removed ≡ removed_gates_of known → AreGateValues (cutoff entries e) ps gates
   values_are ps m gates up has rows removed =
       let made : Gates = record { rows = rows_of m known; removed = removed_gates_of known } in
       let same : made ≡ gates = λ i. record { rows = sym rows i; removed = sym removed i } in

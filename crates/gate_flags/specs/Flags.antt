@@ -4,7 +4,8 @@ use Rattle.gate_spec.specs.declared.entry.GateEntry.{GateEntry}
 use Rattle.gate_spec.specs.declared.entry.Stage.{Stage}
 use Rattle.gate_spec.specs.declared.entry.SpecAt.TheVariants.{Found, Removed, Never, PreAlpha as ComesLater}
 use Rattle.gate_spec.specs.Gates.{cutoff, IsFoundIn, IsSpecAt}
-use Rattle.gate_flags.specs.Pieces.{FlagPiece, pieces, last_pieces}
+use Rattle.flag_text.specs.Passes.{IsFirst}
+use Rattle.flag_text.specs.Pieces.{FlagPiece, pieces, last_pieces}
 use Rattle.gate_flags.specs.Values.{boolean_of}
 use Rattle.gate_flags.specs.declared.fault.GateCause.{GateCause}
 use Rattle.gate_flags.specs.declared.fault.GateCause.TheVariants.{Missing, BadBool, Unknown, PreAlpha, Locked}
@@ -43,16 +44,6 @@ IsRefused entries e p Unknown = ¬ IsAllWord p.name × (IsSpecAt entries p.name 
 IsRefused entries e p PreAlpha = ¬ IsAllWord p.name × IsSpecAt entries p.name e ComesLater
 IsRefused entries e p (Locked default) = ¬ IsAllWord p.name × ((stage : Stage) × IsSpecAt entries p.name e (Found stage default true)) × (boolean_of p ≢ Some default)
 IsRefused entries e p _ = ⊥
-
--- the first piece that isn't fine stands at this place, and is faulty
-pub record IsFirst (Fine Faulty : FlagPiece → Type 0) (ps : List FlagPiece) (place : ℕ) : Type 0 where
-  pub before : List FlagPiece
-  pub piece : FlagPiece
-  pub after : List FlagPiece
-  pub whole : ps ≡ before ++ piece ∷ after
-  pub fine : All Fine before
-  pub faulty : Faulty piece
-  pub at : piece.place ≡ place
 
 -- the first pass: over all pieces, each by itself
 abbrev pub IsFirstFault : List FlagPiece → GateFault → Type 0

@@ -1,5 +1,3 @@
-pub mod Words
-pub mod Pieces
 pub mod Values
 pub mod Flags
 pub mod Lookups

@@ -12,8 +12,7 @@ use Rattle.gate_spec.specs.declared.entry.SpecAt.TheVariants.{Found, PreAlpha, R
 use Rattle.gate_spec.specs.declared.entry.Stage.{Stage}
 use Rattle.gate_spec.specs.declared.entry.Stage.TheVariants.{Alpha, Beta, Ga, Deprecated}
 use Rattle.gate_spec.specs.Gates.{IsSpecAt}
-use Rattle.gate_flags.specs.Pieces.{FlagPiece, last_pieces}
-use Rattle.gate_flags.specs.Values.{boolean_of}
+use Rattle.flag_text.specs.Said.{said_in}
 use Rattle.gate_flags.specs.declared.known.Known.{Known}
 use Rattle.gate_flags.specs.declared.values.GateRow.{GateRow}
 use Rattle.gate_flags.specs.declared.values.RemovedGate.{RemovedGate}
@@ -28,22 +27,14 @@ pub record KnowsGates (entries : List GateEntry) (e : ℕ) (known : BTreeMap (Li
   pub names : (name : List ℕ) → IfSome (get (slice_cmp nat_cmp) known name) (λ k. k.name.now ≡ name)
   pub specs : (name : List ℕ) → IsSpecAt entries name e (spec_in known name)
 
--- the map has the boolean of the last piece of each name
-abbrev pub HasBooleans : List FlagPiece → BTreeMap (List ℕ) (Option Bool) → Type 0
-HasBooleans ps booleans = (name : List ℕ) → get (slice_cmp nat_cmp) booleans name ≡ option_map boolean_of (find (λ p. bytes_eq p.name name) (last_pieces ps))
-
--- what the map has under the name
-abbrev pub boolean_in : BTreeMap (List ℕ) (Option Bool) → List ℕ → Option Bool
-boolean_in booleans name = option_and_then (λ b. b) (get (slice_cmp nat_cmp) booleans name)
-
 abbrev pub all_in : BTreeMap (List ℕ) (Option Bool) → Stage → Option Bool
-all_in booleans Alpha = boolean_in booleans (codes "AllAlpha")
-all_in booleans Beta = boolean_in booleans (codes "AllBeta")
+all_in booleans Alpha = said_in booleans (codes "AllAlpha")
+all_in booleans Beta = said_in booleans (codes "AllBeta")
 all_in booleans Ga = None
 all_in booleans Deprecated = None
 
 abbrev pub value_in : BTreeMap (List ℕ) (Option Bool) → List ℕ → Stage → Bool → Bool
-value_in booleans name stage default = unwrap_or (boolean_in booleans name) (unwrap_or (all_in booleans stage) default)
+value_in booleans name stage default = unwrap_or (said_in booleans name) (unwrap_or (all_in booleans stage) default)
 
 -- the row of a gate, where the release knows it
 abbrev pub row_of : BTreeMap (List ℕ) (Option Bool) → List ℕ → SpecAt → Option GateRow

@@ -8,18 +8,19 @@ use Rattle.gate_spec.specs.declared.entry.GateEntry.{GateEntry}
 use Rattle.gate_spec.specs.declared.entry.Stage.{Stage}
 use Rattle.gate_spec.specs.declared.entry.Stage.TheVariants.{Alpha, Beta, Ga, Deprecated}
 use Rattle.gate_spec.specs.Gates.{IsFoundIn, IsRemovedIn}
-use Rattle.gate_flags.specs.Words.{bool_of}
-use Rattle.gate_flags.specs.Pieces.{FlagPiece, last_pieces}
+use Rattle.flag_text.specs.Said.{said, last_said}
+use Rattle.flag_text.specs.declared.vocabulary.Vocabulary.TheVariants.{Go}
+use Rattle.flag_text.specs.Pieces.{FlagPiece}
 use Rattle.gate_flags.specs.declared.values.GateRow.{GateRow}
 use Rattle.gate_flags.specs.declared.values.RemovedGate.{RemovedGate}
 
 -- the boolean of a piece, where it has a `=` and a boolean word
 abbrev pub boolean_of : FlagPiece → Option Bool
-boolean_of p = option_and_then bool_of p.value
+boolean_of p = said Go p
 
 -- the boolean that the last piece of this name says
 abbrev pub given : List FlagPiece → List ℕ → Option Bool
-given ps name = option_and_then boolean_of (find (λ p. bytes_eq p.name name) (last_pieces ps))
+given ps name = last_said Go ps name
 
 -- what is given for all gates of the stage
 abbrev pub all_given : List FlagPiece → Stage → Option Bool

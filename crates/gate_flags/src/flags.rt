@@ -1,16 +1,15 @@
 ghost use Rattle.std.specs.Prelude.{◌≡◌, ◌≢◌, OnOk, IfOk, IfErr};
 ghost use Rattle.gate_spec.specs.Gates.{RisesInDate, cutoff};
-ghost use Rattle.gate_flags.specs.Pieces.{pieces};
+ghost use Rattle.flag_text.specs.Pieces.{pieces};
 ghost use Rattle.gate_flags.specs.Values.{AreGateValues};
 ghost use Rattle.gate_flags.specs.Flags.{IsFeatureText, IsTextFault};
 
 use crate::fault::GateFault;
 use crate::known::known_gates;
-use crate::last::last_pieces;
 use crate::passes::{first_fault, first_refusal};
-use crate::piece::pieces;
 use crate::rows::{removed_gates, rows};
 use crate::values::GateValues;
+use flag_text::{Vocabulary, last_pieces, pieces};
 use gate_spec::GateEntry;
 use minor_version::Minor;
 use std::alloc::Global;
@@ -30,7 +29,7 @@ fn read_values<'a>(
     if let Some(fault) = first_fault(&pieces) {
         return Err(fault);
     }
-    let last = last_pieces(alloc, pieces)?;
+    let last = last_pieces(alloc, Vocabulary::Go, pieces)?;
     let known = known_gates(alloc, entries, e)?;
     if let Some(fault) = first_refusal(&known, &last.pieces) {
         return Err(fault);

@@ -3,8 +3,8 @@ ghost use Rattle.std.specs.Prelude.{◌≡◌, IfOk};
 ghost use Rattle.gate_spec.specs.Gates.{RisesInDate};
 ghost use Rattle.gate_flags.specs.Lookups.{spec_in, KnowsGates};
 
-use crate::name::Name;
 use basis::Memory;
+use flag_text::Name;
 use gate_spec::{GateEntry, SpecAt};
 use minor_version::{Minor, Text};
 use std::alloc::Global;

@@ -1,6 +1,6 @@
 ghost use Rattle.std.specs.Prelude.{◌≡◌, ◌↔◌};
 ghost use Rattle.gate_spec.specs.Gates.{RisesInDate, cutoff};
-ghost use Rattle.gate_flags.specs.Pieces.{pieces};
+ghost use Rattle.flag_text.specs.Pieces.{pieces};
 ghost use Rattle.gate_flags.specs.Values.{Gates, AreGateValues};
 ghost use Rattle.gate_flags.specs.Flags.{IsFeatureText};
 ghost use Rattle.gate_flags.specs.Laws.{HasOneFault, IsFaultlessWhereValid};

@@ -5,16 +5,12 @@
 mod fault;
 mod flags;
 mod known;
-mod last;
 mod law;
-mod name;
 mod passes;
-mod piece;
 mod rows;
 #[cfg(test)]
 mod tests;
 mod values;
-mod word;
 
 pub use fault::{GateCause, GateFault};
 pub use flags::gate_values;

@@ -8,9 +8,7 @@ ghost use Rattle.gate_flags.specs.Flags.{IsAssignment, IsAllWord, IsAccepted, Ha
 
 use crate::fault::{GateCause, GateFault};
 use crate::known::{Known, spec_in};
-use crate::last::boolean_of;
-use crate::name::Name;
-use crate::piece::Piece;
+use flag_text::{Name, Piece, Vocabulary, said};
 use gate_spec::SpecAt;
 use std::collections::BTreeMap;
 
@@ -20,7 +18,7 @@ fn own_fault(piece: &Piece<'_>) -> Option<GateCause>
 {
     if piece.value.is_none() {
         Some(GateCause::Missing)
-    } else if boolean_of(piece).is_none() {
+    } else if said(Vocabulary::Go, piece).is_none() {
         Some(GateCause::BadBool)
     } else {
         None
@@ -52,7 +50,7 @@ fn is_all_word(name: &[u8]) -> bool
 fn says(piece: &Piece<'_>, value: bool) -> bool
     ensures { IsTrue result ↔ (boolean_of piece.now ≡ Some value) }
 {
-    match boolean_of(piece) {
+    match said(Vocabulary::Go, piece) {
         Some(said) => said == value,
         None => false,
     }

@@ -1,30 +1,21 @@
 //! The rows of the gates that a release knows, and what is kept of those that are removed.
 ghost use Rattle.std.specs.Prelude.{◌≡◌, IfOk};
-ghost use Rattle.gate_flags.specs.Lookups.{boolean_in, all_in, value_in, row_of, removed_of, rows_of, removed_gates_of};
+ghost use Rattle.gate_flags.specs.Lookups.{all_in, value_in, row_of, removed_of, rows_of, removed_gates_of};
 
 use crate::known::Known;
-use crate::name::Name;
 use crate::values::{GateRow, RemovedGate};
 use basis::Memory;
+use flag_text::{Name, said_in};
 use gate_spec::{SpecAt, Stage};
 use std::alloc::Global;
 use std::collections::BTreeMap;
-
-fn boolean_in<'a>(booleans: &BTreeMap<Name<'a>, Option<bool>>, name: &'a [u8]) -> Option<bool>
-    ensures { result ≡ boolean_in booleans.now name.now }
-{
-    match booleans.get(&Name { bytes: name }) {
-        Some(boolean) => *boolean,
-        None => None,
-    }
-}
 
 fn all_in<'a>(booleans: &BTreeMap<Name<'a>, Option<bool>>, stage: Stage) -> Option<bool>
     ensures { result ≡ all_in booleans.now stage }
 {
     match stage {
-        Stage::Alpha => boolean_in(booleans, b"AllAlpha"),
-        Stage::Beta => boolean_in(booleans, b"AllBeta"),
+        Stage::Alpha => said_in(booleans, b"AllAlpha"),
+        Stage::Beta => said_in(booleans, b"AllBeta"),
         Stage::Ga => None,
         Stage::Deprecated => None,
     }
@@ -38,7 +29,7 @@ fn value_in<'a>(
 ) -> bool
     ensures { result ≡ value_in booleans.now name.now stage default }
 {
-    boolean_in(booleans, name).unwrap_or(all_in(booleans, stage).unwrap_or(default))
+    said_in(booleans, name).unwrap_or(all_in(booleans, stage).unwrap_or(default))
 }
 
 fn row<'a>(

@@ -1,7 +1,8 @@
 use Rattle.std.proofs.Common.{All, ap, subst, ◌∙◌}
 use Rattle.gate_spec.specs.Gates.{cutoff}
-use Rattle.gate_flags.specs.Pieces.{last_pieces}
-use Rattle.gate_flags.specs.Lookups.{HasBooleans}
+use Rattle.flag_text.specs.Pieces.{last_pieces}
+use Rattle.flag_text.specs.Said.{HasSaid}
+use Rattle.flag_text.specs.declared.vocabulary.Vocabulary.TheVariants.{Go}
 use Rattle.gate_flags.specs.Flags.{IsAssignment, IsAccepted}
 use Rattle.gate_flags.proofs.PassLemmas.{refusal_is}
 use Rattle.gate_flags.proofs.RowLemmas.{made_in_order, values_are}
@@ -27,5 +28,5 @@ returns-clause-accepted c = record {
 pub returns-clause-values : goal.returns-clause-values
 returns-clause-values c =
     values_are c.args.entries.now c.args.e c.in_ok-known.known c.in_ok-known.ensures _ c.in_ok-last.last.booleans c.new.result c.requires
-    (subst (λ ps. HasBooleans ps c.in_ok-last.last.booleans) c.in_ok-pieces.ensures c.in_ok-last.ensures.booleans)
+    (subst (λ ps. HasSaid Go ps c.in_ok-last.last.booleans) c.in_ok-pieces.ensures c.in_ok-last.ensures.booleans)
     (c.new.ensures.rows ∙ c.in_ok-rows.ensures) (c.new.ensures.removed ∙ c.in_ok-removed.ensures)

@@ -2,7 +2,7 @@ use Rattle.std.proofs.Common.{◌<◌, ◌≡◌, sym, subst}
 use Rattle.std.specs.Prelude.{nat_le}
 use Rattle.std.proofs.lemmas.List.Kept.{AllPairs-filter}
 use Rattle.gate_spec.specs.Gates.{RisesInDate, cutoff}
-use Rattle.gate_flags.specs.Pieces.{pieces}
+use Rattle.flag_text.specs.Pieces.{pieces}
 use Rattle.gate_flags.specs.Values.{AreGateValues}
 use Rattle.gate_flags.specs.Flags.{IsFeatureText}
 use Rattle.gate_flags.proofs.CutLemmas.{cut_tables, same_facts, values_one}

@@ -6,13 +6,15 @@ use Rattle.gate_spec.specs.declared.entry.SpecAt.{SpecAt}
 use Rattle.gate_spec.specs.declared.entry.SpecAt.TheVariants.{Found, Removed, Never, PreAlpha as ComesLater}
 use Rattle.gate_spec.specs.Gates.{RisesInDate, cutoff, IsSpecAt}
 use Rattle.gate_spec.proofs.GateLemmas.{spec_at_one}
-use Rattle.gate_flags.specs.Pieces.{FlagPiece, pieces, last_pieces}
-use Rattle.gate_flags.specs.Flags.{IsAssignment, IsAccepted, HasFault, IsRefused, IsFirst}
+use Rattle.flag_text.specs.Pieces.{FlagPiece, pieces, last_pieces}
+use Rattle.gate_flags.specs.Flags.{IsAssignment, IsAccepted, HasFault, IsRefused}
+use Rattle.flag_text.specs.Passes.{IsFirst}
 use Rattle.gate_flags.specs.Laws.{HasOneFault, IsFaultlessWhereValid}
 use Rattle.gate_flags.specs.declared.fault.GateCause.{GateCause}
 use Rattle.gate_flags.specs.declared.fault.GateCause.TheVariants.{Missing, BadBool, Unknown, PreAlpha, Locked}
 use Rattle.gate_flags.specs.declared.fault.GateFault.TheVariants.{Memory, At}
-use Rattle.gate_flags.proofs.PassLemmas.{first_refutes, fault_refutes, refusal_refutes, fault_refuses}
+use Rattle.flag_text.proofs.PassLemmas.{first_refutes}
+use Rattle.gate_flags.proofs.PassLemmas.{fault_refutes, refusal_refutes, fault_refuses}
 use Rattle.gate_flags.proofs.law.text_has_one_answer.Goals as goal
 
 -- a list has one front of fine pieces before a faulty one

@@ -1,6 +1,6 @@
 use Rattle.std.proofs.Common.{sym, ap, rules}
 use Rattle.gate_flags.specs.Flags.{IsAssignment}
-use Rattle.gate_flags.proofs.PassLemmas.{first_at, fine_more, fine_all}
+use Rattle.flag_text.proofs.PassLemmas.{first_at, fine_more, fine_all}
 use Rattle.gate_flags.proofs.passes.first_fault.Goals as goal
 
 pub returns-in-Some-clause-some : goal.returns-in-Some-clause-some

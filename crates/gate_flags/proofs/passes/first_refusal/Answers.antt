@@ -2,7 +2,7 @@ use Rattle.std.proofs.Common.{sym, ap, rules}
 use Rattle.gate_spec.specs.Gates.{cutoff}
 use Rattle.gate_flags.proofs.LookupLemmas.{knows_at}
 use Rattle.gate_flags.specs.Flags.{IsAccepted}
-use Rattle.gate_flags.proofs.PassLemmas.{first_at, fine_more, fine_all}
+use Rattle.flag_text.proofs.PassLemmas.{first_at, fine_more, fine_all}
 use Rattle.gate_flags.proofs.passes.first_refusal.Goals as goal
 
 pub returns-in-Some-clause-some : goal.returns-in-Some-clause-some

@@ -1,9 +1,9 @@
 use Rattle.std.proofs.Common.{◌≡◌, ◌+◌, ◌<◌, ℕ, take, List, [], ◌∷◌, ◌++◌, Bor, ◌==◌, not, true, false, length, map, get_or, rules, arith, ap, refl, sym, ◌∙◌}
 use Rattle.std.proofs.lemmas.List.{length-map}
-use Rattle.gate_flags.specs.Pieces.{trimmed, pieces_of}
-use Rattle.gate_flags.proofs.PieceLemmas.{read_at, read_some, read_empty}
-use Rattle.gate_flags.proofs.piece.pieces.Goals as goal
-use Rattle.gate_flags.proofs.piece.pieces.Goals.{then-not-is_empty+in-Ok, else-not-is_empty}
+use Rattle.flag_text.specs.Pieces.{trimmed, pieces_of}
+use Rattle.flag_text.proofs.PieceLemmas.{read_at, read_some, read_empty}
+use Rattle.flag_text.proofs.piece.pieces.Goals as goal
+use Rattle.flag_text.proofs.piece.pieces.Goals.{then-not-is_empty+in-Ok, else-not-is_empty}
 
 pub loop-index-preserved : goal.loop-index-preserved
 loop-index-preserved c =

@@ -2,9 +2,9 @@ use Rattle.std.proofs.Common.{◌≡◌, ◌+◌, ◌<◌, ℕ, Bool, true, fals
 use Rattle.std.specs.List.{prefix_len}
 use Rattle.std.proofs.lemmas.Bool.{cond-true, cond-false}
 use Rattle.std.proofs.lemmas.List.{drop_more, drop_all}
-use Rattle.gate_flags.specs.Pieces.{is_blank}
-use Rattle.gate_flags.proofs.piece.trimmed_start.Goals as goal
-use Rattle.gate_flags.proofs.piece.trimmed_start.Goals.{then-loop-from-test+else-is_blank, else-loop-from-test}
+use Rattle.flag_text.specs.Pieces.{is_blank}
+use Rattle.flag_text.proofs.piece.trimmed_start.Goals as goal
+use Rattle.flag_text.proofs.piece.trimmed_start.Goals.{then-loop-from-test+else-is_blank, else-loop-from-test}
 
 prefix_len-drop_yes : {X : Type 0} (p : X → Bool) (xs : List X) (i : ℕ) (d : X) → i < length xs → p (get_or xs i d) ≡ true → prefix_len p (drop i xs) ≡ 1 + prefix_len p (drop (i + 1) xs)
 prefix_len-drop_yes p xs i d below e = ap (prefix_len p) (drop_more xs i d below) ∙ cond-true (p (get_or xs i d)) (1 + prefix_len p (drop (i + 1) xs)) 0 e

@@ -1,6 +1,6 @@
 use Rattle.std.proofs.Common.{ap, sym, ◌∙◌}
-use Rattle.gate_flags.proofs.LookupLemmas.{popped, seen_at, new_at}
-use Rattle.gate_flags.proofs.last.last_pieces.Goals as goal
+use Rattle.flag_text.proofs.LastLemmas.{popped, seen_at, new_at}
+use Rattle.flag_text.proofs.last.last_pieces.Goals as goal
 
 pub loop-piece-preserved-then-contains_key : goal.loop-piece-preserved-then-contains_key
 loop-piece-preserved-then-contains_key c =
@@ -8,7 +8,7 @@ loop-piece-preserved-then-contains_key c =
     let ys = c.pop.new.self.items in
     let zs = c.loop-piece.pieces.items in
     let i = c.loop-piece.invariant in
-    let done = seen_at xs ys zs c.in-Some.piece c.piece.inside.name.now c.loop-piece.last.items c.loop-piece.booleans i.left c.in-Some.ensures.items (sym (ap (λ p. p.name) c.piece.view_is))
+    let done = seen_at c.args.words xs ys zs c.in-Some.piece c.piece.inside.name.now c.loop-piece.last.items c.loop-piece.booleans i.left c.in-Some.ensures.items (sym (ap (λ p. p.name) c.piece.view_is))
     (sym c.contains_key.ensures ∙ c.if-contains_key.true) i.order i.booleans in
     record {
       left = (popped xs ys zs c.in-Some.piece i.left c.in-Some.ensures.items).0;
@@ -22,8 +22,8 @@ loop-piece-preserved c =
     let ys = c.pop.new.self.items in
     let zs = c.loop-piece.pieces.items in
     let i = c.loop-piece.invariant in
-    let done = new_at xs ys zs c.in-Some.piece c.piece.inside.name.now c.loop-piece.last.items c.push.new.self.items c.loop-piece.booleans c.insert.new.self c.boolean_of.result i.left c.in-Some.ensures.items (sym (ap (λ p. p.name) c.piece.view_is))
-    (sym c.contains_key.ensures ∙ c.if-contains_key.false) i.order i.booleans c.in-Ok-push.ensures.items c.boolean_of.ensures c.in-Ok.ensures.updates in
+    let done = new_at c.args.words xs ys zs c.in-Some.piece c.piece.inside.name.now c.loop-piece.last.items c.push.new.self.items c.loop-piece.booleans c.insert.new.self c.said.result i.left c.in-Some.ensures.items (sym (ap (λ p. p.name) c.piece.view_is))
+    (sym c.contains_key.ensures ∙ c.if-contains_key.false) i.order i.booleans c.in-Ok-push.ensures.items c.said.ensures c.in-Ok.ensures.updates in
     record {
       left = (popped xs ys zs c.in-Some.piece i.left c.in-Some.ensures.items).0;
       order = done.0;

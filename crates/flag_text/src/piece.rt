@@ -1,7 +1,7 @@
 //! The pieces of a flag text.
 ghost use Rattle.std.specs.Prelude.{◌≡◌, ◌<◌, ◌==◌, IfOk, IfSome, length, map};
 ghost use Rattle.std.specs.List.{position, slice_split};
-ghost use Rattle.gate_flags.specs.Pieces.{is_blank, trimmed_start, trimmed_end, trimmed, piece_of, pieces};
+ghost use Rattle.flag_text.specs.Pieces.{is_blank, trimmed_start, trimmed_end, trimmed, piece_of, pieces};
 
 use basis::Memory;
 use std::alloc::{AllocError, Global};
@@ -17,7 +17,7 @@ pub struct Piece<'a> {
 
 impl<'a> Model for Piece<'a> {
     ghost use Rattle.std.specs.Option.{option_map};
-    ghost use Rattle.gate_flags.specs.Pieces.{FlagPiece};
+    ghost use Rattle.flag_text.specs.Pieces.{FlagPiece};
 
     ghost Value = { FlagPiece };
 

@@ -1,7 +1,7 @@
 use Rattle.std.proofs.Common.{◌≡◌, ◌==◌, map, take}
 use Rattle.std.specs.List.{slice_split}
-use Rattle.gate_flags.specs.Pieces.{trimmed, pieces_of}
-use Rattle.gate_flags.proofs.piece.pieces.Given as goal
+use Rattle.flag_text.specs.Pieces.{trimmed, pieces_of}
+use Rattle.flag_text.proofs.piece.pieces.Given as goal
 
 abbrev pub invariant-loop-index : goal.invariant-loop-index
 invariant-loop-index l = record {

@@ -1,12 +1,11 @@
 //! The last piece of each name.
 ghost use Rattle.std.specs.Prelude.{◌≡◌, IfOk};
-ghost use Rattle.gate_flags.specs.Pieces.{last_pieces};
-ghost use Rattle.gate_flags.specs.Values.{boolean_of};
-ghost use Rattle.gate_flags.specs.Lookups.{HasBooleans};
+ghost use Rattle.flag_text.specs.Pieces.{last_pieces};
+ghost use Rattle.flag_text.specs.Said.{said, said_in, HasSaid};
 
 use crate::name::Name;
 use crate::piece::Piece;
-use crate::word::bool_word;
+use crate::vocabulary::Vocabulary;
 use basis::Memory;
 use std::alloc::Global;
 use std::collections::BTreeMap;
@@ -19,19 +18,33 @@ pub struct LastPieces<'a> {
 }
 
 /// The boolean that the piece says.
-pub fn boolean_of(piece: &Piece<'_>) -> Option<bool>
-    ensures { result ≡ boolean_of piece.now }
+pub fn said(words: Vocabulary, piece: &Piece<'_>) -> Option<bool>
+    ensures { result ≡ said words piece.now }
 {
     match piece.value {
-        Some(word) => bool_word(word),
+        Some(word) => words.boolean(word),
+        None => None,
+    }
+}
+
+/// The boolean under the name.
+pub fn said_in<'a>(booleans: &BTreeMap<Name<'a>, Option<bool>>, name: &'a [u8]) -> Option<bool>
+    ensures { result ≡ said_in booleans.now name.now }
+{
+    match booleans.get(&Name { bytes: name }) {
+        Some(boolean) => *boolean,
         None => None,
     }
 }
 
 /// For each name its last piece.
-pub fn last_pieces(alloc: Global, mut pieces: Vec<Piece<'_>>) -> Result<LastPieces<'_>, Memory>
+pub fn last_pieces(
+    alloc: Global,
+    words: Vocabulary,
+    mut pieces: Vec<Piece<'_>>,
+) -> Result<LastPieces<'_>, Memory>
     ensures order { IfOk result (λ last. last.pieces.items ≡ last_pieces pieces.entry.items) }
-    ensures booleans { IfOk result (λ last. HasBooleans pieces.entry.items last.booleans) }
+    ensures booleans { IfOk result (λ last. HasSaid words pieces.entry.items last.booleans) }
 {
     let mut last = Vec::new(alloc);
     let mut booleans = BTreeMap::new(alloc);
@@ -40,7 +53,7 @@ pub fn last_pieces(alloc: Global, mut pieces: Vec<Piece<'_>>) -> Result<LastPiec
         if booleans.contains_key(&name) {
             continue;
         }
-        match booleans.insert(name, boolean_of(&piece)) {
+        match booleans.insert(name, said(words, &piece)) {
             Ok(_) => {}
             Err(_) => return Err(Memory),
         }

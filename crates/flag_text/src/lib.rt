@@ -1,0 +1,14 @@
+//! Flag texts, as `WidgetColor=true,SlowMode=false`: their pieces, and what the last piece of each name says.
+#![tactic(auto)]
+
+mod last;
+mod name;
+mod piece;
+#[cfg(test)]
+mod tests;
+mod vocabulary;
+
+pub use last::{LastPieces, last_pieces, said, said_in};
+pub use name::Name;
+pub use piece::{Piece, pieces};
+pub use vocabulary::Vocabulary;
