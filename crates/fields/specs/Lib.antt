@@ -1,0 +1,4 @@
+pub mod Order
+pub mod Map
+pub mod Table
+pub mod Places

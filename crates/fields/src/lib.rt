@@ -1,8 +1,14 @@
-//! Fields of resources, and how each version of a resource spells them.
+//! Fields of resources, how each version of a resource spells them, and what objects hold in them.
 #![tactic(auto)]
 
 mod field;
+mod map;
+mod table;
+#[cfg(test)]
+mod tests;
 mod value;
 
 pub use field::{Field, FieldList, Form, Path, Spell, SpellList};
+pub use map::{FieldPair, Fields};
+pub use table::{FieldRow, FieldRows, VersionTable};
 pub use value::{FieldType, FieldValue, TextList};

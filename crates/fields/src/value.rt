@@ -1,3 +1,5 @@
+ghost use Rattle.std.specs.Prelude.{◌≡◌, ◌↔◌, IsTrue};
+
 use basis::Sequence;
 use minor_version::Text;
 
@@ -20,4 +22,19 @@ pub enum FieldValue {
     Int(i64),
     Text(Text),
     List(TextList),
+}
+
+impl FieldValue {
+    /// Whether both are the same value.
+    pub fn same(&self, other: &FieldValue) -> bool
+        ensures { IsTrue result ↔ (self.now ≡ other.now) }
+    {
+        match (self, other) {
+            (FieldValue::Bool(one), FieldValue::Bool(other)) => *one == *other,
+            (FieldValue::Int(one), FieldValue::Int(other)) => *one == *other,
+            (FieldValue::Text(one), FieldValue::Text(other)) => one == other,
+            (FieldValue::List(one), FieldValue::List(other)) => one.items() == other.items(),
+            _ => false,
+        }
+    }
 }
