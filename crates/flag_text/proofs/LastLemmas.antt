@@ -23,7 +23,7 @@ at_same a b h = tells_apart exact_bytes a b h
 pub at_itself : (a b : List ℕ) → a ≡ b → is_at (slice_cmp nat_cmp a) b ≡ true
 at_itself a b e = subst (λ c. is_at (slice_cmp nat_cmp a) c ≡ true) e ((eq_by_cmp_equiv nat_list_cmp_total).refl a)
 
-at_bytes : (a b : List ℕ) → is_at (slice_cmp nat_cmp a) b ≡ bytes_eq a b
+pub at_bytes : (a b : List ℕ) → is_at (slice_cmp nat_cmp a) b ≡ bytes_eq a b
 at_bytes a b = one_answer (is_at (slice_cmp nat_cmp a) b) (bytes_eq a b) (at_same a b, at_itself a b) (bytes_eq-Decides a b)
 
 -- a list whose first m elements are ys and p

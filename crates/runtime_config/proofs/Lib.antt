@@ -1,2 +1,6 @@
 pub mod OrderLemmas
 pub mod NameLemmas
+pub mod KeyLemmas
+pub mod StandingLemmas
+pub mod RefusalLemmas
+pub mod ServedLemmas

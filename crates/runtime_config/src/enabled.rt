@@ -42,6 +42,66 @@ impl Model for Enabled {
     ghost invariant = { λ e. AreInOrder e.names.items };
 }
 
+impl PartialEq for ServedName {
+    ghost use Rattle.std.proofs.Common.{rules};
+    ghost use Rattle.std.specs.Cmp.Rules.{comparing};
+    ghost use Rattle.runtime_config.specs.Served.{is_same_name};
+
+    ghost eq = { is_same_name };
+
+    ghost laws = { Prim.search (comparing, rules) };
+
+    fn eq(&self, other: &ServedName) -> bool {
+        self.group == other.group
+            && self.version == other.version
+            && self.resource == other.resource
+    }
+}
+
+impl Eq for ServedName {
+    ghost use Rattle.std.proofs.Common.{rules};
+    ghost use Rattle.std.specs.Cmp.Rules.{comparing};
+
+    ghost laws = { Prim.search (comparing, rules) };
+}
+
+impl Ord for ServedName {
+    ghost use Rattle.std.proofs.Common.{rules};
+    ghost use Rattle.std.specs.Cmp.Rules.{comparing};
+    ghost use Rattle.runtime_config.specs.Served.{by_name};
+
+    ghost cmp = { by_name };
+
+    ghost total = { Prim.search (comparing, rules) };
+
+    ghost matches_partial_cmp = { Prim.search (comparing, rules) };
+
+    ghost matches_eq = { Prim.search (comparing, rules) };
+
+    fn cmp(&self, other: &ServedName) -> Ordering {
+        self.group
+            .cmp(&other.group)
+            .then(self.version.cmp(&other.version))
+            .then(self.resource.cmp(&other.resource))
+    }
+}
+
+impl PartialOrd for ServedName {
+    ghost use Rattle.std.proofs.Common.{rules};
+    ghost use Rattle.std.specs.Cmp.{partial_order_from_agreeing_total};
+    ghost use Rattle.std.specs.Cmp.Rules.{comparing};
+    ghost use Rattle.std.specs.Ordering.{as_partial_cmp};
+    ghost use Rattle.runtime_config.specs.Served.{by_name};
+
+    ghost partial_cmp = { as_partial_cmp by_name };
+
+    ghost laws = { partial_order_from_agreeing_total by_name (Prim.search (comparing, rules)) (Prim.search (comparing, rules)) (Prim.search (comparing, rules)) };
+
+    fn partial_cmp(&self, other: &ServedName) -> Option<Ordering> {
+        Some(self.cmp(other))
+    }
+}
+
 impl ServedName {
     fn compared(&self, name: ApiName<'_>) -> Ordering
         ensures { result ≡ by_name self.now (named name.entry) }

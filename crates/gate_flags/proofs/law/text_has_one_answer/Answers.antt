@@ -13,32 +13,9 @@ use Rattle.gate_flags.specs.Laws.{HasOneFault, IsFaultlessWhereValid}
 use Rattle.gate_flags.specs.declared.fault.GateCause.{GateCause}
 use Rattle.gate_flags.specs.declared.fault.GateCause.TheVariants.{Missing, BadBool, Unknown, PreAlpha, Locked}
 use Rattle.gate_flags.specs.declared.fault.GateFault.TheVariants.{Memory, At}
-use Rattle.flag_text.proofs.PassLemmas.{first_refutes}
+use Rattle.flag_text.proofs.PassLemmas.{first_refutes, one_at}
 use Rattle.gate_flags.proofs.PassLemmas.{fault_refutes, refusal_refutes, fault_refuses}
 use Rattle.gate_flags.proofs.law.text_has_one_answer.Goals as goal
-
--- a list has one front of fine pieces before a faulty one
-one_split : (Fine F G : FlagPiece → Type 0) → ((p : FlagPiece) → F p → Fine p → ⊥) → ((p : FlagPiece) → G p → Fine p → ⊥) → (front before : List FlagPiece) (p q : FlagPiece) (after later : List FlagPiece)
-    → front ++ p ∷ after ≡ before ++ q ∷ later → AllByRecursion Fine front → AllByRecursion Fine before → F p → G q → p ≡ q
-one_split Fine F G f g [] [] p q after later same a b h k = cc
-one_split Fine F G f g [] (y ∷ ys) p q after later same a b h k = let here : y ≡ p = cc in absurd (f p h (subst Fine here b.0))
-one_split Fine F G f g (x ∷ xs) [] p q after later same a b h k = let here : x ≡ q = cc in absurd (g q k (subst Fine here a.0))
-one_split Fine F G f g (x ∷ xs) (y ∷ ys) p q after later same a b h k =
-    let rest : xs ++ p ∷ after ≡ ys ++ q ∷ later = cc in
-    one_split Fine F G f g xs ys p q after later rest a.1 b.1 h k
-
-one_first : (Fine F G : FlagPiece → Type 0) (ps : List FlagPiece) (m n : ℕ) → ((p : FlagPiece) → F p → Fine p → ⊥) → ((p : FlagPiece) → G p → Fine p → ⊥) → (h : IsFirst Fine F ps m) (k : IsFirst Fine G ps n) → h.piece ≡ k.piece
-one_first Fine F G ps m n f g h k =
-    one_split Fine F G f g h.before k.before h.piece k.piece h.after k.after (sym h.whole ∙ k.whole) (recursion_from_All Fine h.before h.fine) (recursion_from_All Fine k.before k.fine) h.faulty k.faulty
-
--- where the cause is determined by the piece, the fault is one
-one_at : (Fine : FlagPiece → Type 0) (Faulty : FlagPiece → GateCause → Type 0) (ps : List FlagPiece) (m n : ℕ) (c d : GateCause) → ((p : FlagPiece) (c : GateCause) → Faulty p c → Fine p → ⊥)
-    → ((p : FlagPiece) (c d : GateCause) → Faulty p c → Faulty p d → c ≡ d) → IsFirst Fine (λ p. Faulty p c) ps m → IsFirst Fine (λ p. Faulty p d) ps n → At m c ≡ At n d
-one_at Fine Faulty ps m n c d apart one h k =
-    let same : h.piece ≡ k.piece = one_first Fine (λ p. Faulty p c) (λ p. Faulty p d) ps m n (λ p. apart p c) (λ p. apart p d) h k in
-    let place : m ≡ n = sym h.at ∙ ap (λ p. p.place) same ∙ k.at in
-    let cause : c ≡ d = one h.piece c d h.faulty (subst (λ p. Faulty p d) (sym same) k.faulty) in
-    ap₂ At place cause
 
 abbrev cause_without : Option (List ℕ) → GateCause
 cause_without None = Missing
@@ -78,11 +55,11 @@ one_fault : (entries : List GateEntry) (e : ℕ) (text : List ℕ) → RisesInDa
 one_fault entries e text up Memory g some other h k = absurd (some refl)
 one_fault entries e text up (At m c) Memory some other h k = absurd (other refl)
 one_fault entries e text up (At m c) (At n d) some other (inl h) (inl k) =
-    one_at IsAssignment HasFault (pieces text) m n c d fault_refutes (λ p c d a b. fault_cause p c a ∙ sym (fault_cause p d b)) h k
+    one_at At IsAssignment HasFault (pieces text) m n c d fault_refutes (λ p c d a b. fault_cause p c a ∙ sym (fault_cause p d b)) h k
 one_fault entries e text up (At m c) (At n d) some other (inl h) (inr k) = absurd (first_refutes IsAssignment (λ p. HasFault p c) (pieces text) m (λ p. fault_refutes p c) h k.0)
 one_fault entries e text up (At m c) (At n d) some other (inr h) (inl k) = absurd (first_refutes IsAssignment (λ p. HasFault p d) (pieces text) n (λ p. fault_refutes p d) k h.0)
 one_fault entries e text up (At m c) (At n d) some other (inr h) (inr k) =
-    one_at (IsAccepted (cutoff entries e)) (IsRefused entries e) (last_pieces (pieces text)) m n c d (λ p c. refusal_refutes entries e p c up) (one_refusal entries e up) h.1 k.1
+    one_at At (IsAccepted (cutoff entries e)) (IsRefused entries e) (last_pieces (pieces text)) m n c d (λ p c. refusal_refutes entries e p c up) (one_refusal entries e up) h.1 k.1
 
 either : (entries : List GateEntry) (e : ℕ) (text : List ℕ) → RisesInDate entries → IsFaultlessWhereValid entries e text
 either entries e text up valid Memory h = refl

@@ -1,0 +1,103 @@
+//! The two passes over the pieces of a text.
+ghost use Rattle.std.specs.Prelude.{◌≡◌, ◌↔◌, IsTrue, IfSome, IfNone, All, List, ℕ, Option};
+ghost use Rattle.flag_text.specs.Pieces.{last_pieces};
+ghost use Rattle.flag_text.specs.Said.{said};
+ghost use Rattle.lifecycle.specs.declared.entry.ApiEntry.{ApiEntry as TheEntry};
+ghost use Rattle.lifecycle.specs.Tables.{cutoff};
+ghost use Rattle.runtime_config.specs.Config.{IsPair, IsTakenKey, HasFault, IsRefused, IsFirstFault, IsFirstRefusal, IsAllOffPiece, IsOnly};
+ghost use Rattle.runtime_config.specs.Standings.{standing, standing_cause, cause_of, HasStandings};
+
+use crate::fault::{ConfigCause, ConfigFault};
+use crate::keys::{ALL, is_api_key};
+use crate::standing::{Standing, Standings, standing_in};
+use flag_text::{Piece, Vocabulary, said};
+
+fn own_fault(piece: &Piece<'_>) -> Option<ConfigCause>
+    ensures some { IfSome result (HasFault piece.now) }
+    ensures none { IfNone result (IsPair piece.now) }
+{
+    if piece.value.is_none() {
+        Some(ConfigCause::BadPair)
+    } else if said(Vocabulary::Plain, piece).is_none() {
+        Some(ConfigCause::BadBool)
+    } else {
+        None
+    }
+}
+
+/// The first piece that has a fault by itself.
+pub fn first_fault(pieces: &[Piece<'_>]) -> Option<ConfigFault>
+    ensures some { IfSome result (IsFirstFault pieces.now) }
+    ensures none { IfNone result (All IsPair pieces.now) }
+{
+    for piece in pieces {
+        if let Some(cause) = own_fault(piece) {
+            return Some(ConfigFault::At {
+                place: piece.place,
+                cause,
+            });
+        }
+    }
+    None
+}
+
+fn standing_cause(standing: Standing) -> Option<ConfigCause>
+    ensures { result ≡ standing_cause standing }
+{
+    match standing {
+        Standing::Live => None,
+        Standing::Gone => Some(ConfigCause::RemovedApi),
+        Standing::Later => Some(ConfigCause::AfterEmulated),
+    }
+}
+
+// Why a key with this standing isn't taken.
+fn cause_of(found: Option<Standing>) -> Option<ConfigCause>
+    ensures { result ≡ cause_of found }
+{
+    match found {
+        Some(standing) => standing_cause(standing),
+        None => Some(ConfigCause::UnknownApi),
+    }
+}
+
+// Why the release refuses the piece, by the standing of its key.
+fn refusal(piece: &Piece<'_>, found: Option<Standing>) -> Option<ConfigCause>
+    ensures some { (entries : List TheEntry) (e : ℕ) → found ≡ standing (cutoff entries e) e entries piece.now.name → IfSome result (IsRefused entries e piece.now) }
+    ensures none { (entries : List TheEntry) (e : ℕ) → found ≡ standing (cutoff entries e) e entries piece.now.name → IfNone result (IsTakenKey (cutoff entries e) piece.now.name) }
+{
+    if is_api_key(piece.name) {
+        None
+    } else {
+        cause_of(found)
+    }
+}
+
+/// The first of the last pieces that the release refuses.
+pub fn first_refusal<'a>(known: &Standings<'a>, last: &[Piece<'a>]) -> Option<ConfigFault>
+    ensures some { (entries : List TheEntry) (e : ℕ) → HasStandings (cutoff entries e) e entries known.now → IfSome result (IsFirstRefusal entries e last.now) }
+    ensures none { (entries : List TheEntry) (e : ℕ) → HasStandings (cutoff entries e) e entries known.now → IfNone result (All (λ p. IsTakenKey (cutoff entries e) p.name) last.now) }
+{
+    for piece in last {
+        if let Some(cause) = refusal(piece, standing_in(known, piece.name)) {
+            return Some(ConfigFault::At {
+                place: piece.place,
+                cause,
+            });
+        }
+    }
+    None
+}
+
+fn is_all_off(piece: &Piece<'_>) -> bool
+    ensures { IsTrue result ↔ IsAllOffPiece piece.now }
+{
+    piece.name == ALL && said(Vocabulary::Plain, piece) == Some(false)
+}
+
+/// Whether `api/all=false` is all that is left.
+pub fn is_only_all_false(last: &[Piece<'_>]) -> bool
+    ensures { IsTrue result ↔ IsOnly last.now }
+{
+    last.len() == 1 && is_all_off(&last[0])
+}
