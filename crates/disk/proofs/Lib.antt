@@ -1,0 +1,4 @@
+pub mod CallLemmas
+pub mod MemLemmas
+pub mod PatchLemmas
+pub mod TraitLemmas

@@ -1,0 +1,158 @@
+-- A disk in memory: what its states are after a call, by those before it.
+use Rattle.std.proofs.Common.{◌≡◌, ◌⊎◌, ◌↔◌, inl, inr, ⊎_elim, ℕ, ◌+◌, ◌≤◌, ◌<◌, Bool, true, false, ◌&&◌, ◌||◌, nat_le, nat_lt, if◌then◌else◌, List, [], ◌∷◌, ◌++◌, length, take, IsFalse, refl, sym, ◌∙◌, ap, subst, arith}
+use Rattle.std.proofs.Math.Seq.{take-append_seam}
+use Rattle.std.proofs.lemmas.Bool.Decides.{nat_tests}
+use Rattle.disk.specs.declared.file.File.{File}
+use Rattle.disk.specs.declared.file.File.TheVariants.{Choice, Left, Right}
+use Rattle.disk.specs.declared.log.Entry.{Entry}
+use Rattle.disk.specs.declared.log.Change.{Change}
+use Rattle.disk.specs.declared.log.Change.TheVariants.{Wrote, WriteFailed, Cut, CutFailed, Synced}
+use Rattle.disk.specs.Images.{Pending, Within, IsImage, Images, Each, IsStill, resting, end_of_lengths, after_write, after_cut, same_file, at_file, Becomes, OthersHold, OthersWithin, patched}
+use Rattle.disk.specs.ImageLaws.{within_image, within_refl, within_write, within_cut, same_file_refl, still_image}
+use Rattle.disk.specs.Moments.{Elapses, Unchanged}
+use Rattle.disk.specs.Slots.{Three, file_of}
+use Rattle.disk.specs.MemDisk.{State, resting_state, step, one, replay, state_in, MemRecord, state_at, mem_held, mem_pending, mem_may_leave, InPast, KeepsHeld}
+use Rattle.disk.specs.MemLaws.{mem_held_now}
+
+-- the record of calls
+
+pub replay_push : (t : ℕ) (f : File) (es : List Entry) (e : Entry) (s : State) → replay t f (es ++ e ∷ []) s ≡ one t f e (replay t f es s)
+replay_push t f [] e s = refl
+replay_push t f (x ∷ es) e s = replay_push t f es e (one t f x s)
+
+le_true : (a b : ℕ) → a ≤ b → nat_le a b ≡ true
+le_true a b h = grind (arith, nat_tests)
+
+le_false : (a b : ℕ) → b < a → nat_le a b ≡ false
+le_false a b h = grind (arith, nat_tests)
+
+pub one_at : (t : ℕ) (f : File) (e : Entry) (s : State) → e.moment ≤ t → one t f e s ≡ (if same_file f e.file then step e.change s else s)
+one_at t f e s le = ap (λ b. if b && same_file f e.file then step e.change s else s) (le_true e.moment t le)
+
+pub one_after : (t : ℕ) (f : File) (e : Entry) (s : State) → t < e.moment → one t f e s ≡ s
+one_after t f e s lt = ap (λ b. if b && same_file f e.file then step e.change s else s) (le_false e.moment t lt)
+
+pub replay_past : (c t : ℕ) (f : File) (es : List Entry) (s : State) → InPast c es → c ≤ t → replay t f es s ≡ replay c f es s
+replay_past c t f [] s past le = refl
+replay_past c t f (e ∷ es) s past le =
+    replay_past c t f es (one t f e s) past.1 le
+    ∙ ap (λ x. replay c f es x) (one_at t f e s (omega (arith, past.0, le)) ∙ sym (one_at c f e s past.0))
+
+past_later : (c d : ℕ) (es : List Entry) → InPast c es → c ≤ d → InPast d es
+past_later c d [] past le = tt
+past_later c d (e ∷ es) past le = (omega (arith, past.0, le), past_later c d es past.1 le)
+
+past_push : (c : ℕ) (es : List Entry) (e : Entry) → InPast c es → e.moment ≤ c → InPast c (es ++ e ∷ [])
+past_push c [] e past at = (at, tt)
+past_push c (x ∷ es) e past at = (past.0, past_push c es e past.1 at)
+
+-- the invariant
+
+pub record Stands (now : Images) (first : Three) (log : List Entry) (clock : ℕ) : Type 0 where
+  pub past : InPast clock log
+  pub held : (f : File) → now f ≡ (state_in first log clock f).held
+
+pub stands_later : (held : Images) (first : Three) (log : List Entry) (c d : ℕ) → Stands held first log c → c ≤ d → Stands held first log d
+stands_later held first log c d h le = record {
+  past = past_later c d log h.past le;
+  held = λ f. h.held f ∙ sym (ap (λ (s : State). s.held) (replay_past c d f log (resting_state (file_of first f)) h.past le));
+}
+
+pub step_keeps : (change : Change) (s : State) → KeepsHeld change → (step change s).held ≡ s.held
+step_keeps (WriteFailed at n) s keeps = refl
+step_keeps (CutFailed to) s keeps = refl
+step_keeps Synced s keeps = refl
+step_keeps (Wrote at bytes) s keeps = absurd keeps
+step_keeps (Cut to) s keeps = absurd keeps
+
+abbrev pub entry_of : ℕ → File → Change → Entry
+entry_of moment file change = record { moment = moment; file = file; change = change }
+
+-- a change more, recorded at the present
+module _ (first : Three) (log : List Entry) (clock : ℕ) (file : File) (change : Change) where
+  pub pushed : (f : File) → state_in first (log ++ entry_of clock file change ∷ []) clock f ≡ (if same_file f file then step change (state_in first log clock f) else state_in first log clock f)
+  pushed f = let s = resting_state (file_of first f) in
+      replay_push clock f log (entry_of clock file change) s ∙ one_at clock f (entry_of clock file change) (replay clock f log s) (omega arith)
+
+bool_cases : (b : Bool) → (b ≡ true) ⊎ (b ≡ false)
+bool_cases true = inl refl
+bool_cases false = inr refl
+
+pub same_is : (f g : File) → same_file f g ≡ true → f ≡ g
+same_is Choice Choice h = refl
+same_is Left Left h = refl
+same_is Right Right h = refl
+same_is Choice Left h = cc
+same_is Choice Right h = cc
+same_is Left Choice h = cc
+same_is Left Right h = cc
+same_is Right Choice h = cc
+same_is Right Left h = cc
+
+-- the file holds what the change makes of it, and the others what they held
+pub stands_pushed : (held new : Images) (first : Three) (log : List Entry) (clock : ℕ) (file : File) (change : Change) → Stands held first log clock
+    → new file ≡ (step change (state_in first log clock file)).held → OthersHold file held new → Stands new first (log ++ entry_of clock file change ∷ []) clock
+stands_pushed held new first log clock file change h here others = record {
+  past = past_push clock log (entry_of clock file change) h.past (omega arith);
+  held = λ f. ⊎_elim
+    (λ (is : same_file f file ≡ true). subst (λ g. new g ≡ (state_in first (log ++ entry_of clock file change ∷ []) clock g).held) (sym (same_is f file is))
+      (here ∙ sym (ap (λ (s : State). s.held) (pushed first log clock file change file ∙ ap (λ b. if b then step change (state_in first log clock file) else state_in first log clock file) (same_file_refl file)))))
+    (λ (other : same_file f file ≡ false). others f other ∙ h.held f
+      ∙ sym (ap (λ (s : State). s.held) (pushed first log clock file change f ∙ ap (λ b. if b then step change (state_in first log clock f) else state_in first log clock f) other)))
+    (bool_cases (same_file f file));
+}
+
+pub stands_noted : (held : Images) (first : Three) (log : List Entry) (clock : ℕ) (file : File) (change : Change) → Stands held first log clock → KeepsHeld change → Stands held first (log ++ entry_of clock file change ∷ []) clock
+stands_noted held first log clock file change h keeps =
+    stands_pushed held held first log clock file change h (h.held file ∙ sym (step_keeps change (state_in first log clock file) keeps)) (λ f other. refl)
+
+pub wrote_there : (at : ℕ) (bytes : List ℕ) (s : State) → at ≤ length s.held → at + length bytes < end_of_lengths → step (Wrote at bytes) s ≡ record { held = patched s.held at bytes; pending = after_write at (length bytes) s.pending }
+wrote_there at bytes s le short = ap (λ b. if b then record { held = patched s.held at bytes; pending = after_write at (length bytes) s.pending } else s) (both at (length bytes) (length s.held) le short)
+  where
+    both : (a n long : ℕ) → a ≤ long → a + n < end_of_lengths → (nat_le a long && nat_lt (a + n) end_of_lengths) ≡ true
+    both a n long h k = grind (arith, nat_tests)
+
+-- ends of the calls that change what a file holds
+
+pub place_in : (d o : MemRecord) → d ≡ o → (held : Images) → ((f : File) → held f ≡ mem_held d f) → (file : File) (at : ℕ) → at ≤ length (mem_held o file) → at ≤ length (held file)
+place_in d o v held is file at le = subst (λ (l : List ℕ). at ≤ length l) (sym (is file)) (subst (λ y. at ≤ length (mem_held y file)) (sym v) le)
+
+moved : (new : Images) (first first' : Three) (log log' : List Entry) (clock : ℕ) → first' ≡ first → log' ≡ log → Stands new first log clock → Stands new first' log' clock
+moved new first first' log log' clock a b h = subst (λ x. Stands new x log' clock) (sym a) (subst (λ l. Stands new first l clock) (sym b) h)
+
+pub stands_written : (held new : Images) (first first' : Three) (log log' : List Entry) (clock : ℕ) (file : File) (at : ℕ) (bytes : List ℕ) → Stands held first log clock → at ≤ length (held file) → at + length bytes < end_of_lengths
+    → new file ≡ patched (held file) at bytes → OthersHold file held new → first' ≡ first → log' ≡ log ++ entry_of clock file (Wrote at bytes) ∷ [] → Stands new first' log' clock
+stands_written held new first first' log log' clock file at bytes h le short here others a b =
+    let s = state_in first log clock file in
+    let long : at ≤ length s.held = subst (λ (l : List ℕ). at ≤ length l) (h.held file) le in
+    moved new first first' (log ++ entry_of clock file (Wrote at bytes) ∷ []) log' clock a b
+      (stands_pushed held new first log clock file (Wrote at bytes) h
+        (here ∙ ap (λ (l : List ℕ). patched l at bytes) (h.held file) ∙ sym (ap (λ (x : State). x.held) (wrote_there at bytes s long short))) others)
+
+pub stands_cut : (held new : Images) (first first' : Three) (log log' : List Entry) (clock : ℕ) (file : File) (to : ℕ) → Stands held first log clock
+    → new file ≡ take to (held file) → OthersHold file held new → first' ≡ first → log' ≡ log ++ entry_of clock file (Cut to) ∷ [] → Stands new first' log' clock
+stands_cut held new first first' log log' clock file to h here others a b =
+    moved new first first' (log ++ entry_of clock file (Cut to) ∷ []) log' clock a b
+      (stands_pushed held new first log clock file (Cut to) h (here ∙ ap (λ (l : List ℕ). take to l) (h.held file)) others)
+
+pub stands_same : (held new : Images) (first first' : Three) (log log' : List Entry) (clock : ℕ) (file : File) → Stands held first log clock
+    → new file ≡ held file → OthersHold file held new → first' ≡ first → log' ≡ log → Stands new first' log' clock
+stands_same held new first first' log log' clock file h here others a b =
+    moved new first first' log log' clock a b (record {
+      past = h.past;
+      held = λ f. ⊎_elim
+        (λ (is : same_file f file ≡ true). subst (λ g. new g ≡ (state_in first log clock g).held) (sym (same_is f file is)) (here ∙ h.held file))
+        (λ (other : same_file f file ≡ false). others f other ∙ h.held f)
+        (bool_cases (same_file f file));
+    })
+
+-- an entry that was taken back
+pub taken_back : (log more now : List Entry) (e : Entry) (n : ℕ) → n ≡ length log → more ≡ log ++ e ∷ [] → now ≡ take n more → now ≡ log
+taken_back log more now e n size grown is = is ∙ ap (λ l. take n l) grown ∙ ap (λ m. take m (log ++ e ∷ [])) size ∙ take-append_seam log (e ∷ [])
+
+-- the states of the present, at a later clock
+pub state_later : (d o : MemRecord) → d ≡ o → InPast d.clock d.log → (c : ℕ) → d.clock ≤ c → (f : File) → state_in d.first d.log c f ≡ state_at o o.clock f
+state_later d o v past c le f = replay_past d.clock c f d.log (resting_state (file_of d.first f)) past le ∙ ap (λ y. state_at y y.clock f) v
+
+pub past_of : (d o : MemRecord) → d ≡ o → InPast d.clock d.log → InPast o.clock o.log
+past_of d o v past = subst (λ y. InPast y.clock y.log) v past

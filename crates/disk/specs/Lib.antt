@@ -1,0 +1,9 @@
+pub mod Beside
+pub mod Content
+pub mod Counted
+pub mod ImageLaws
+pub mod Images
+pub mod MemDisk
+pub mod MemLaws
+pub mod Moments
+pub mod Slots

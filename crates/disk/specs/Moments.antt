@@ -1,0 +1,27 @@
+-- Moments: the values of a disk's clock. The moment that a call raised the clock to is the state after the call.
+use Rattle.std.specs.Prelude.{◌≡◌, ◌⊎◌, ◌↔◌, ℕ, ◌-◌, ◌^◌, ◌≤◌, ◌<◌, Result, IsErr}
+use Rattle.disk.specs.declared.file.File.{File}
+use Rattle.disk.specs.Images.{Pending, Images}
+
+-- The moments up to a call keep their images, and those that it adds have only such ones.
+pub record Elapses (before now : ℕ) (past present : ℕ → Images → Type 0) (Added : ℕ → Images → Type 0) : Type 0 where
+  pub later : before ≤ now
+  pub kept : (t : ℕ) (images : Images) → t ≤ before → present t images ↔ past t images
+  pub added : (t : ℕ) (images : Images) → before < t → t ≤ now → present t images → Added t images
+
+-- the same of a run of calls
+abbrev pub Moments : {D : Type 0} → (D → ℕ) → (D → ℕ → Images → Type 0) → D → D → (ℕ → Images → Type 0) → Type 0
+Moments clock may_leave old new Added = Elapses (clock old) (clock new) (may_leave old) (may_leave new) Added
+
+-- The clock of a call that writes, cuts or syncs: a u64, which rises. At its greatest value it stays, and the call fails.
+pub record Ticks {T E : Type 0} (before now : ℕ) (result : Result T E) : Type 0 where
+  pub later : before ≤ now
+  pub rises : (before < now) ⊎ (before ≡ 2 ^ 64 - 1)
+  pub fits : now < 2 ^ 64
+  pub ends : before ≡ 2 ^ 64 - 1 → IsErr result
+
+-- a call that changes nothing of the files and of what a stop may leave
+pub record Unchanged (held_old held_new : Images) (pending_old pending_new : File → Pending) (before : ℕ) (past present : ℕ → Images → Type 0) : Type 0 where
+  pub held : held_new ≡ held_old
+  pub pending : pending_new ≡ pending_old
+  pub kept : (t : ℕ) (images : Images) → t ≤ before → present t images ↔ past t images

@@ -1,0 +1,16 @@
+//! The disk: three files, and what a stop at any moment may leave of them.
+#![tactic(auto)]
+
+mod disk;
+mod fail_list;
+mod failed;
+mod file;
+mod log;
+mod mem_disk;
+mod slots;
+
+pub use disk::Disk;
+pub use fail_list::FailList;
+pub use failed::Failed;
+pub use file::File;
+pub use mem_disk::MemDisk;
