@@ -1,19 +1,14 @@
 -- A disk in memory keeps the clauses of the trait: what each call leaves, by its record.
-use Rattle.std.proofs.Common.{◌≡◌, ◌⊎◌, ◌↔◌, inl, inr, ⊎_elim, ℕ, ◌+◌, ◌-◌, ◌^◌, ◌≤◌, ◌<◌, min, Bool, true, false, if◌then◌else◌, List, [], ◌∷◌, ◌++◌, length, take, Result, Ok, Err, OnOk, OnErr, IsErr, refl, sym, ◌∙◌, ap, subst, arith}
-use Rattle.basis.specs.Counts.{Rose, HasCause}
-use Rattle.disk.specs.Counted.{counted}
-use Rattle.disk.specs.declared.failed.Failed.{Failed}
+use Rattle.std.proofs.Common.{◌≡◌, ℕ, ◌+◌, ◌≤◌, Bool, true, false, if◌then◌else◌, List, [], ◌∷◌, ◌++◌, refl, sym, ◌∙◌, ap, subst, arith}
 use Rattle.disk.specs.declared.file.File.{File}
 use Rattle.disk.specs.declared.log.Entry.{Entry}
 use Rattle.disk.specs.declared.log.Change.{Change}
-use Rattle.disk.specs.declared.log.Change.TheVariants.{Wrote, WriteFailed, Cut, CutFailed, Synced}
-use Rattle.disk.specs.Images.{Pending, Within, IsImage, Images, Each, IsStill, resting, end_of_lengths, after_write, after_cut, same_file, at_file, Becomes, OthersHold, OthersWithin, patched}
-use Rattle.disk.specs.ImageLaws.{within_image, within_refl, within_write, within_cut, resting_image, same_file_refl, still_image}
-use Rattle.disk.specs.Moments.{Elapses, Ticks, Unchanged}
+use Rattle.disk.specs.Images.{Pending, Within, IsImage, Images, Each, same_file, at_file, Becomes, OthersHold}
+use Rattle.disk.specs.ImageLaws.{within_image, within_refl, same_file_refl}
+use Rattle.disk.specs.Moments.{Elapses}
 use Rattle.disk.specs.Slots.{file_of}
-use Rattle.disk.specs.MemDisk.{State, resting_state, step, one, replay, state_in, MemRecord, state_at, mem_held, mem_pending, mem_may_leave, InPast, KeepsHeld, called, ticked, blamed, hungry, noted, HasFailed, IsCall, IsWriteCall, IsCutCall, IsSyncCall}
-use Rattle.disk.specs.MemLaws.{mem_held_now}
-use Rattle.disk.proofs.MemLemmas.{replay_push, replay_past, one_at, one_after, entry_of, same_is, step_keeps, wrote_there}
+use Rattle.disk.specs.MemDisk.{State, resting_state, step, replay, MemRecord, state_at, mem_held, mem_pending, mem_may_leave, InPast}
+use Rattle.disk.proofs.MemLemmas.{replay_push, replay_past, one_at, one_after, entry_of, same_is}
 
 -- a disk with this record and these counts
 abbrev pub made : MemRecord → List Entry → ℕ → ℕ → ℕ → ℕ → MemRecord
@@ -81,11 +76,11 @@ module _ (d : MemRecord) (past : InPast d.clock d.log) (x s n : ℕ) (file : Fil
   noted_elapses Added so = record {
     later = omega arith;
     kept = λ t i le. let same : (λ f. state_at one_more t f) ≡ (λ f. state_at d t f) = λ j f. state_old t f le j in
-      (subst (λ (y : File → State). Each (λ f. (y f).pending) i) same, subst (λ (y : File → State). Each (λ f. (y f).pending) i) (sym same));
+        (subst (λ (y : File → State). Each (λ f. (y f).pending) i) same, subst (λ (y : File → State). Each (λ f. (y f).pending) i) (sym same));
     added = λ t i above le now.
-      let is : t ≡ d.clock + 1 = omega (arith, above, le) in
-      let same : (λ f. state_at one_more t f) ≡ (λ f. changed f) = λ j f. (ap (λ m. state_at one_more m f) is ∙ state_new f) j in
-      so i (subst (λ (y : File → State). Each (λ f. (y f).pending) i) same now);
+        let is : t ≡ d.clock + 1 = omega (arith, above, le) in
+        let same : (λ f. state_at one_more t f) ≡ (λ f. changed f) = λ j f. (ap (λ m. state_at one_more m f) is ∙ state_new f) j in
+        so i (subst (λ (y : File → State). Each (λ f. (y f).pending) i) same now);
   }
 
   pub held_here : mem_held one_more file ≡ (step change (state_at d d.clock file)).held
@@ -107,5 +102,6 @@ module _ (d : MemRecord) (past : InPast d.clock d.log) (x s n : ℕ) (file : Fil
       stepped_if : (b : Bool) (f : File) → (b ≡ true → f ≡ file) → (if b then step change (state_at d d.clock f) else state_at d d.clock f).pending ≡ (if b then after (mem_pending d f) else mem_pending d f)
       stepped_if false f is = refl
       stepped_if true f is = subst (λ g. (step change (state_at d d.clock g)).pending ≡ after (mem_pending d g)) (sym (is refl)) agrees
+
       stepped : (f : File) → (changed f).pending ≡ at_file file after (mem_pending d) f
       stepped f = stepped_if (same_file f file) f (same_is f file)

@@ -1,5 +1,5 @@
 -- A disk in memory: what its states are after a call, by those before it.
-use Rattle.std.proofs.Common.{◌≡◌, ◌⊎◌, ◌↔◌, inl, inr, ⊎_elim, ℕ, ◌+◌, ◌≤◌, ◌<◌, Bool, true, false, ◌&&◌, ◌||◌, nat_le, nat_lt, if◌then◌else◌, List, [], ◌∷◌, ◌++◌, length, take, IsFalse, refl, sym, ◌∙◌, ap, subst, arith}
+use Rattle.std.proofs.Common.{◌≡◌, ◌⊎◌, inl, inr, ⊎_elim, ℕ, ◌+◌, ◌≤◌, ◌<◌, Bool, true, false, ◌&&◌, nat_le, nat_lt, if◌then◌else◌, List, [], ◌∷◌, ◌++◌, length, take, refl, sym, ◌∙◌, ap, subst, arith}
 use Rattle.std.proofs.Math.Seq.{take-append_seam}
 use Rattle.std.proofs.lemmas.Bool.Decides.{nat_tests}
 use Rattle.disk.specs.declared.file.File.{File}
@@ -7,12 +7,12 @@ use Rattle.disk.specs.declared.file.File.TheVariants.{Choice, Left, Right}
 use Rattle.disk.specs.declared.log.Entry.{Entry}
 use Rattle.disk.specs.declared.log.Change.{Change}
 use Rattle.disk.specs.declared.log.Change.TheVariants.{Wrote, WriteFailed, Cut, CutFailed, Synced}
-use Rattle.disk.specs.Images.{Pending, Within, IsImage, Images, Each, IsStill, resting, end_of_lengths, after_write, after_cut, same_file, at_file, Becomes, OthersHold, OthersWithin, patched}
-use Rattle.disk.specs.ImageLaws.{within_image, within_refl, within_write, within_cut, same_file_refl, still_image}
-use Rattle.disk.specs.Moments.{Elapses, Unchanged}
+use Rattle.disk.specs.Images.{Pending, IsImage, Images, resting, end_of_lengths, after_write, after_cut, same_file, OthersHold, patched}
+use Rattle.disk.specs.ImageLaws.{same_file_refl, reached_later}
 use Rattle.disk.specs.Slots.{Three, file_of}
-use Rattle.disk.specs.MemDisk.{State, resting_state, step, one, replay, state_in, MemRecord, state_at, mem_held, mem_pending, mem_may_leave, InPast, KeepsHeld}
-use Rattle.disk.specs.MemLaws.{mem_held_now}
+use Rattle.disk.specs.MemDisk.{State, resting_state, step, one, replay, state_in, MemRecord, state_at, mem_held, InPast, KeepsHeld}
+use Rattle.disk.specs.MemLaws.{IsGood}
+use Rattle.disk.specs.Stops.{IsPicked}
 
 -- the record of calls
 
@@ -95,11 +95,11 @@ pub stands_pushed : (held new : Images) (first : Three) (log : List Entry) (cloc
 stands_pushed held new first log clock file change h here others = record {
   past = past_push clock log (entry_of clock file change) h.past (omega arith);
   held = λ f. ⊎_elim
-    (λ (is : same_file f file ≡ true). subst (λ g. new g ≡ (state_in first (log ++ entry_of clock file change ∷ []) clock g).held) (sym (same_is f file is))
+      (λ (is : same_file f file ≡ true). subst (λ g. new g ≡ (state_in first (log ++ entry_of clock file change ∷ []) clock g).held) (sym (same_is f file is))
       (here ∙ sym (ap (λ (s : State). s.held) (pushed first log clock file change file ∙ ap (λ b. if b then step change (state_in first log clock file) else state_in first log clock file) (same_file_refl file)))))
-    (λ (other : same_file f file ≡ false). others f other ∙ h.held f
+      (λ (other : same_file f file ≡ false). others f other ∙ h.held f
       ∙ sym (ap (λ (s : State). s.held) (pushed first log clock file change f ∙ ap (λ b. if b then step change (state_in first log clock f) else state_in first log clock f) other)))
-    (bool_cases (same_file f file));
+      (bool_cases (same_file f file));
 }
 
 pub stands_noted : (held : Images) (first : Three) (log : List Entry) (clock : ℕ) (file : File) (change : Change) → Stands held first log clock → KeepsHeld change → Stands held first (log ++ entry_of clock file change ∷ []) clock
@@ -126,14 +126,14 @@ stands_written held new first first' log log' clock file at bytes h le short her
     let s = state_in first log clock file in
     let long : at ≤ length s.held = subst (λ (l : List ℕ). at ≤ length l) (h.held file) le in
     moved new first first' (log ++ entry_of clock file (Wrote at bytes) ∷ []) log' clock a b
-      (stands_pushed held new first log clock file (Wrote at bytes) h
-        (here ∙ ap (λ (l : List ℕ). patched l at bytes) (h.held file) ∙ sym (ap (λ (x : State). x.held) (wrote_there at bytes s long short))) others)
+    (stands_pushed held new first log clock file (Wrote at bytes) h
+    (here ∙ ap (λ (l : List ℕ). patched l at bytes) (h.held file) ∙ sym (ap (λ (x : State). x.held) (wrote_there at bytes s long short))) others)
 
 pub stands_cut : (held new : Images) (first first' : Three) (log log' : List Entry) (clock : ℕ) (file : File) (to : ℕ) → Stands held first log clock
     → new file ≡ take to (held file) → OthersHold file held new → first' ≡ first → log' ≡ log ++ entry_of clock file (Cut to) ∷ [] → Stands new first' log' clock
 stands_cut held new first first' log log' clock file to h here others a b =
     moved new first first' (log ++ entry_of clock file (Cut to) ∷ []) log' clock a b
-      (stands_pushed held new first log clock file (Cut to) h (here ∙ ap (λ (l : List ℕ). take to l) (h.held file)) others)
+    (stands_pushed held new first log clock file (Cut to) h (here ∙ ap (λ (l : List ℕ). take to l) (h.held file)) others)
 
 pub stands_same : (held new : Images) (first first' : Three) (log log' : List Entry) (clock : ℕ) (file : File) → Stands held first log clock
     → new file ≡ held file → OthersHold file held new → first' ≡ first → log' ≡ log → Stands new first' log' clock
@@ -141,9 +141,9 @@ stands_same held new first first' log log' clock file h here others a b =
     moved new first first' log log' clock a b (record {
       past = h.past;
       held = λ f. ⊎_elim
-        (λ (is : same_file f file ≡ true). subst (λ g. new g ≡ (state_in first log clock g).held) (sym (same_is f file is)) (here ∙ h.held file))
-        (λ (other : same_file f file ≡ false). others f other ∙ h.held f)
-        (bool_cases (same_file f file));
+          (λ (is : same_file f file ≡ true). subst (λ g. new g ≡ (state_in first log clock g).held) (sym (same_is f file is)) (here ∙ h.held file))
+          (λ (other : same_file f file ≡ false). others f other ∙ h.held f)
+          (bool_cases (same_file f file));
     })
 
 -- an entry that was taken back
@@ -156,3 +156,57 @@ state_later d o v past c le f = replay_past d.clock c f d.log (resting_state (fi
 
 pub past_of : (d o : MemRecord) → d ≡ o → InPast d.clock d.log → InPast o.clock o.log
 past_of d o v past = subst (λ y. InPast y.clock y.log) v past
+
+-- the lengths at the last good sync and since
+
+pub record Spans (p : Pending) : Type 0 where
+  pub shorter : p.least ≤ length p.base
+  pub longer : length p.base ≤ p.greatest
+
+spans_if : (b : Bool) (x y : State) → Spans x.pending → Spans y.pending → Spans (if b then x else y).pending
+spans_if true x y hx hy = hx
+spans_if false x y hx hy = hy
+
+write_spans : (at n : ℕ) (p : Pending) → Spans p → Spans (after_write at n p)
+write_spans at n p h = let g = reached_later at n p.greatest in record { shorter = h.shorter; longer = omega (arith, h.longer, g) }
+
+cut_spans : (to : ℕ) (p : Pending) → Spans p → Spans (after_cut to p)
+cut_spans to p h = record { shorter = omega (arith, h.shorter); longer = h.longer }
+
+resting_spans : (bytes : List ℕ) → Spans (resting bytes)
+resting_spans bytes = record { shorter = omega arith; longer = omega arith }
+
+step_spans : (change : Change) (s : State) → Spans s.pending → Spans (step change s).pending
+step_spans (Wrote at bytes) s h = spans_if (nat_le at (length s.held) && nat_lt (at + length bytes) end_of_lengths) _ s (write_spans at (length bytes) s.pending h) h
+step_spans (WriteFailed at n) s h = write_spans at n s.pending h
+step_spans (Cut to) s h = cut_spans to s.pending h
+step_spans (CutFailed to) s h = cut_spans to s.pending h
+step_spans Synced s h = resting_spans s.held
+
+spans_from : (t : ℕ) (f : File) (es : List Entry) (s : State) → Spans s.pending → Spans (replay t f es s).pending
+spans_from t f [] s h = h
+spans_from t f (e ∷ es) s h = spans_from t f es (one t f e s) (spans_if (nat_le e.moment t && same_file f e.file) (step e.change s) s (step_spans e.change s h) h)
+
+pub replay_spans : (t : ℕ) (f : File) (es : List Entry) (bytes : List ℕ) → Spans (replay t f es (resting_state bytes)).pending
+replay_spans t f es bytes = spans_from t f es (resting_state bytes) (resting_spans bytes)
+
+-- one entry more
+pub replay_more : (t : ℕ) (f : File) (es : List Entry) (i : ℕ) (e : Entry) (s : State) → take (i + 1) es ≡ take i es ++ e ∷ [] → replay t f (take (i + 1) es) s ≡ one t f e (replay t f (take i es) s)
+replay_more t f es i e s is = ap (λ l. replay t f l s) is ∙ replay_push t f (take i es) e s
+
+-- each pick leaves an image
+pub picked_image : (pick : ℕ) (s : State) (image : List ℕ) → IsGood s → Spans s.pending → IsPicked pick s image → IsImage s.pending image
+picked_image pick s image good spans picked = ⊎_elim
+    (λ (is : pick ≡ 0). subst (IsImage s.pending) (sym (picked.lost is)) (record { no_shorter = spans.shorter; no_longer = spans.longer; same = λ k base long closed. refl }))
+    (λ (some : (pick ≡ 1) ⊎ (1 < pick)). ⊎_elim
+    (λ (is : pick ≡ 1). subst (IsImage s.pending) (sym (picked.kept is)) good)
+    (λ (more : 1 < pick). let f = picked.filled more in record {
+      no_shorter = omega (arith, f.size, spans.shorter, spans.longer);
+      no_longer = omega (arith, f.size);
+      same = λ k base long closed. f.kept k base (omega (arith, long, f.size)) closed;
+    })
+    some)
+    (picks pick)
+  where
+    picks : (n : ℕ) → (n ≡ 0) ⊎ ((n ≡ 1) ⊎ (1 < n))
+    picks n = grind arith

@@ -1,5 +1,5 @@
 -- Bytes that are put over the end of a list, and then over what was there.
-use Rattle.std.proofs.Common.{◌≡◌, ◌⊎◌, inl, inr, ⊎_elim, ℕ, ◌+◌, ◌-◌, ◌≤◌, ◌<◌, max, min, List, [], ◌++◌, length, get_or, take, drop, sym, ◌∙◌, ap, refl, subst, arith, length-append, length-take, length-drop}
+use Rattle.std.proofs.Common.{◌≡◌, ◌⊎◌, inl, inr, ⊎_elim, ℕ, ◌+◌, ◌-◌, ◌≤◌, ◌<◌, min, List, [], ◌++◌, length, get_or, take, drop, sym, ◌∙◌, ap, refl, subst, arith, length-append, length-take, length-drop}
 use Rattle.std.proofs.lemmas.List.{get_or-take, get_or-drop, get_or_append_left, get_or-append_right, get_or_past, drop_all}
 use Rattle.std.proofs.Math.Seq.{take-append_seam}
 use Rattle.disk.specs.Images.{patched}
@@ -19,12 +19,12 @@ patched_in_place old bytes z at m le least size over outside =
     patch_is old at bytes z le (record {
       size = omega (arith, size, la, ld, least);
       inside = λ k below. ⊎_elim
-        (λ (near : k < m). over k (omega (arith, lt, near, below)) ∙ get_or-take m bytes k 0 near)
-        (λ (far : m ≤ k). outside (at + k) (inr (omega (arith, lt, far))) ∙ get_or-append_right old (drop m bytes) (length old) (at + k) 0 refl (omega (arith, far, least, below)) ∙ get_or-drop m bytes (at + k - length old) 0 ∙ ap (λ j. get_or bytes j 0) (omega (arith, far, least, below, le)))
-        (below_or_past k m);
+          (λ (near : k < m). over k (omega (arith, lt, near, below)) ∙ get_or-take m bytes k 0 near)
+          (λ (far : m ≤ k). outside (at + k) (inr (omega (arith, lt, far))) ∙ get_or-append_right old (drop m bytes) (length old) (at + k) 0 refl (omega (arith, far, least, below)) ∙ get_or-drop m bytes (at + k - length old) 0 ∙ ap (λ j. get_or bytes j 0) (omega (arith, far, least, below, le)))
+          (below_or_past k m);
       outside = λ k out.
-        let outer : (k < at) ⊎ (at + length (take m bytes) ≤ k) = ⊎_elim (λ (a : k < at). inl a) (λ (b : at + length bytes ≤ k). inr (omega (arith, b, lt))) out in
-        outside k outer ∙ ⊎_elim
+          let outer : (k < at) ⊎ (at + length (take m bytes) ≤ k) = ⊎_elim (λ (a : k < at). inl a) (λ (b : at + length bytes ≤ k). inr (omega (arith, b, lt))) out in
+          outside k outer ∙ ⊎_elim
           (λ (near : k < length old). get_or_append_left old (drop m bytes) 0 k near)
           (λ (far : length old ≤ k). get_or-append_right old (drop m bytes) (length old) k 0 refl far ∙ get_or_past (drop m bytes) (k - length old) 0 (ends k far out) ∙ sym (get_or_past old k 0 far))
           (below_or_past k (length old));
@@ -32,9 +32,9 @@ patched_in_place old bytes z at m le least size over outside =
   where
     ends : (k : ℕ) → length old ≤ k → (k < at) ⊎ (at + length bytes ≤ k) → length (drop m bytes) ≤ k - length old
     ends k far out = ⊎_elim
-      (λ (a : k < at). absurd (omega (arith, a, far, le)))
-      (λ (b : at + length bytes ≤ k). let ld = length-drop m bytes in omega (arith, b, ld, least, far))
-      out
+        (λ (a : k < at). absurd (omega (arith, a, far, le)))
+        (λ (b : at + length bytes ≤ k). let ld = length-drop m bytes in omega (arith, b, ld, least, far))
+        out
 
 -- the same by the parts
 pub patched_by_parts : (old bytes over beyond extended z : List ℕ) (at m : ℕ) → at ≤ length old → m ≡ min (length bytes) (length old - at) → over ≡ take m bytes → beyond ≡ drop m bytes → extended ≡ old ++ beyond → length z ≡ length extended
@@ -43,8 +43,8 @@ pub patched_by_parts : (old bytes over beyond extended z : List ℕ) (at m : ℕ
     → z ≡ patched old at bytes
 patched_by_parts old bytes over beyond extended z at m le least front back grown size inside outside =
     patched_in_place old bytes z at m le least (size ∙ ap length grown ∙ ap (λ l. length (old ++ l)) back)
-      (λ k below. inside k (subst (λ l. k < length l) (sym front) below) ∙ ap (λ l. get_or l k 0) front)
-      (λ k out. outside k (subst (λ l. (k < at) ⊎ (at + length l ≤ k)) (sym front) out) ∙ ap (λ l. get_or l k 0) (grown ∙ ap (λ l. old ++ l) back))
+    (λ k below. inside k (subst (λ l. k < length l) (sym front) below) ∙ ap (λ l. get_or l k 0) front)
+    (λ k out. outside k (subst (λ l. (k < at) ⊎ (at + length l ≤ k)) (sym front) out) ∙ ap (λ l. get_or l k 0) (grown ∙ ap (λ l. old ++ l) back))
 
 -- a list that was written back whole
 pub whole : (n : ℕ) (z extended : List ℕ) → length z ≡ n → length extended ≡ n → take n (z ++ drop (length z) extended) ≡ z

@@ -1,19 +1,19 @@
 -- Each clause of the trait, for a disk in memory, from what its call is.
-use Rattle.std.proofs.Common.{◌≡◌, ◌⊎◌, ◌↔◌, inl, inr, ⊎_elim, ℕ, ◌+◌, ◌-◌, ◌^◌, ◌≤◌, ◌<◌, min, Bool, true, false, if◌then◌else◌, List, [], ◌∷◌, ◌++◌, length, take, Result, Ok, Err, OnOk, OnErr, IsErr, refl, sym, ◌∙◌, ap, subst, arith}
-use Rattle.basis.specs.Counts.{Rose, HasCause}
+use Rattle.std.proofs.Common.{◌≡◌, ◌⊎◌, ◌↔◌, inl, inr, ⊎_elim, ℕ, ◌+◌, ◌-◌, ◌^◌, ◌≤◌, ◌<◌, Bool, true, false, if◌then◌else◌, List, length, take, Result, Ok, Err, OnOk, OnErr, refl, sym, ◌∙◌, ap, subst, arith}
 use Rattle.disk.specs.Counted.{counted}
 use Rattle.disk.specs.declared.failed.Failed.{Failed}
 use Rattle.disk.specs.declared.file.File.{File}
-use Rattle.disk.specs.declared.log.Entry.{Entry}
 use Rattle.disk.specs.declared.log.Change.{Change}
 use Rattle.disk.specs.declared.log.Change.TheVariants.{Wrote, WriteFailed, Cut, CutFailed, Synced}
-use Rattle.disk.specs.Images.{Pending, Within, IsImage, Images, Each, IsStill, resting, end_of_lengths, after_write, after_cut, same_file, at_file, Becomes, OthersHold, OthersWithin, patched}
-use Rattle.disk.specs.ImageLaws.{within_image, within_refl, within_write, within_cut, resting_image, same_file_refl, still_image}
-use Rattle.disk.specs.Moments.{Elapses, Ticks, Unchanged}
-use Rattle.disk.specs.MemDisk.{State, resting_state, step, MemRecord, state_at, mem_held, mem_pending, mem_may_leave, InPast, KeepsHeld, IsListed, called, ticked, blamed, hungry, noted, HasFailed, IsCall, IsWriteCall, IsCutCall, IsSyncCall}
-use Rattle.disk.specs.MemLaws.{mem_held_now}
-use Rattle.disk.proofs.MemLemmas.{step_keeps, wrote_there}
-use Rattle.disk.proofs.CallLemmas.{made, Leaves, idle_held, idle_pending, idle_elapses, idle_leaves, one_more, changed, state_new, noted_elapses, held_here, pending_here, noted_leaves}
+use Rattle.disk.specs.Images.{Pending, Within, IsImage, Images, Each, IsStill, resting, end_of_lengths, after_write, after_cut, same_file, OthersWithin, patched}
+use Rattle.disk.specs.ImageLaws.{within_image, within_refl, within_write, within_cut, resting_image, still_image}
+use Rattle.disk.specs.Moments.{Elapses}
+use Rattle.disk.specs.MemDisk.{State, resting_state, step, MemRecord, state_at, mem_held, mem_pending, mem_may_leave, InPast, KeepsHeld, IsListed, called, ticked, blamed, hungry, noted, HasFailed, IsWriteCall, IsCutCall, IsSyncCall}
+use Rattle.disk.specs.MemLaws.{replay_good, mem_held_now}
+use Rattle.disk.specs.Slots.{file_of}
+use Rattle.disk.specs.Stops.{IsPicked}
+use Rattle.disk.proofs.MemLemmas.{step_keeps, wrote_there, replay_spans, picked_image}
+use Rattle.disk.proofs.CallLemmas.{made, Leaves, idle_held, idle_pending, idle_elapses, idle_leaves, one_more, state_new, noted_elapses, held_here, pending_here, noted_leaves}
 
 -- a call that failed, where its failed change is recorded
 
@@ -29,18 +29,18 @@ module _ (old new : MemRecord) (past : InPast old.clock old.log) (file : File) (
   failed_held failed = ⊎_elim
       (λ (end : (old.clock ≡ 2 ^ 64 - 1) × (new ≡ blamed (called old))). ap mem_held end.1)
       (λ (more : (new ≡ hungry (ticked (called old))) ⊎ ((IsListed old ⊎ TooFar) × (new ≡ blamed (noted (ticked (called old)) file bad)))). ⊎_elim
-        (λ (is : new ≡ hungry (ticked (called old))). ap mem_held is ∙ idle_held old past (old.clock + 1) (counted old.faults) (counted old.starved) (counted old.calls) (omega arith))
-        (λ (is : (IsListed old ⊎ TooFar) × (new ≡ blamed (noted (ticked (called old)) file bad))). ap mem_held is.1 ∙ noted_kept (counted old.faults) old.starved (counted old.calls))
-        more)
+      (λ (is : new ≡ hungry (ticked (called old))). ap mem_held is ∙ idle_held old past (old.clock + 1) (counted old.faults) (counted old.starved) (counted old.calls) (omega arith))
+      (λ (is : (IsListed old ⊎ TooFar) × (new ≡ blamed (noted (ticked (called old)) file bad))). ap mem_held is.1 ∙ noted_kept (counted old.faults) old.starved (counted old.calls))
+      more)
       failed
 
   pub failed_leaves : (after : Pending → Pending) → ((p : Pending) → Within p (after p)) → (step bad (state_at old old.clock file)).pending ≡ after (mem_pending old file) → HasFailed old new TooFar (λ d. noted d file bad) → Leaves old new file after
   failed_leaves after grows agrees failed = ⊎_elim
       (λ (end : (old.clock ≡ 2 ^ 64 - 1) × (new ≡ blamed (called old))). subst (λ y. Leaves old y file after) (sym end.1) (idle_leaves old past old.clock (counted old.faults) old.starved (counted old.calls) (omega arith) file after grows))
       (λ (more : (new ≡ hungry (ticked (called old))) ⊎ ((IsListed old ⊎ TooFar) × (new ≡ blamed (noted (ticked (called old)) file bad)))). ⊎_elim
-        (λ (is : new ≡ hungry (ticked (called old))). subst (λ y. Leaves old y file after) (sym is) (idle_leaves old past (old.clock + 1) (counted old.faults) (counted old.starved) (counted old.calls) (omega arith) file after grows))
-        (λ (is : (IsListed old ⊎ TooFar) × (new ≡ blamed (noted (ticked (called old)) file bad))). subst (λ y. Leaves old y file after) (sym is.1) (noted_leaves old past (counted old.faults) old.starved (counted old.calls) file bad after agrees))
-        more)
+      (λ (is : new ≡ hungry (ticked (called old))). subst (λ y. Leaves old y file after) (sym is) (idle_leaves old past (old.clock + 1) (counted old.faults) (counted old.starved) (counted old.calls) (omega arith) file after grows))
+      (λ (is : (IsListed old ⊎ TooFar) × (new ≡ blamed (noted (ticked (called old)) file bad))). subst (λ y. Leaves old y file after) (sym is.1) (noted_leaves old past (counted old.faults) old.starved (counted old.calls) file bad after agrees))
+      more)
       failed
 
 -- writes
@@ -126,9 +126,9 @@ module _ (old new : MemRecord) (past : InPast old.clock old.log) (file : File) w
   failed_sync P idle failed = ⊎_elim
       (λ (end : (old.clock ≡ 2 ^ 64 - 1) × (new ≡ blamed (called old))). subst P (sym end.1) (idle old.clock (counted old.faults) old.starved (counted old.calls) (omega arith)))
       (λ (more : (new ≡ hungry (ticked (called old))) ⊎ ((IsListed old ⊎ ⊥) × (new ≡ blamed (ticked (called old))))). ⊎_elim
-        (λ (is : new ≡ hungry (ticked (called old))). subst P (sym is) (idle (old.clock + 1) (counted old.faults) (counted old.starved) (counted old.calls) (omega arith)))
-        (λ (is : (IsListed old ⊎ ⊥) × (new ≡ blamed (ticked (called old)))). subst P (sym is.1) (idle (old.clock + 1) (counted old.faults) old.starved (counted old.calls) (omega arith)))
-        more)
+      (λ (is : new ≡ hungry (ticked (called old))). subst P (sym is) (idle (old.clock + 1) (counted old.faults) (counted old.starved) (counted old.calls) (omega arith)))
+      (λ (is : (IsListed old ⊎ ⊥) × (new ≡ blamed (ticked (called old)))). subst P (sym is.1) (idle (old.clock + 1) (counted old.faults) old.starved (counted old.calls) (omega arith)))
+      more)
       failed
 
   pub sync_leaves : (result : Result Unit Failed) → IsSyncCall old new file result → SyncLeaves old new file
@@ -138,7 +138,7 @@ module _ (old new : MemRecord) (past : InPast old.clock old.log) (file : File) w
   pub sync_still : (result : Result Unit Failed) → IsSyncCall old new file result → OnOk result (IsStill (mem_held new) (mem_pending new) file)
   sync_still (Ok u) call = subst (λ y. IsStill (mem_held y) (mem_pending y) file) (sym call.ok)
       (subst (λ p. Within p (resting (mem_held synced_disk file))) (sym (pending_here old past old.faults old.starved (counted old.calls) file Synced))
-        (subst (λ (l : List ℕ). Within (resting (mem_held old file)) (resting l)) (sym (held_here old past old.faults old.starved (counted old.calls) file Synced)) (within_refl (resting (mem_held old file)))))
+      (subst (λ (l : List ℕ). Within (resting (mem_held old file)) (resting l)) (sym (held_here old past old.faults old.starved (counted old.calls) file Synced)) (within_refl (resting (mem_held old file)))))
   sync_still (Err e) call = tt
 
   pub sync_failed : (result : Result Unit Failed) → IsSyncCall old new file result → OnErr result (Within (mem_pending new file) (mem_pending old file))
@@ -160,5 +160,11 @@ pass_leaves d o v past c le = subst (λ y. PassLeaves y (record d { clock = c })
   pending = idle_pending d past c d.faults d.starved d.calls le;
   time = idle_elapses d past c d.faults d.starved d.calls le (mem_may_leave d d.clock) (λ i h. h);
   images = λ i. let same = idle_pending d past c d.faults d.starved d.calls le in
-    (subst (λ (p : File → Pending). Each p i) same, subst (λ (p : File → Pending). Each p i) (sym same));
+      (subst (λ (p : File → Pending). Each p i) same, subst (λ (p : File → Pending). Each p i) (sym same));
 })
+
+-- stops
+
+pub picked_images : (d : MemRecord) (t pick : ℕ) (images : Images) → ((f : File) → IsPicked pick (state_at d t f) (images f)) → mem_may_leave d t images
+picked_images d t pick images picked f = picked_image pick (state_at d t f) (images f)
+    (replay_good t f d.log (resting_state (file_of d.first f)) (resting_image (file_of d.first f))) (replay_spans t f d.log (file_of d.first f)) (picked f)

@@ -1,11 +1,11 @@
 -- What follows from the disk model, for the layers above.
-use Rattle.std.proofs.Common.{◌≡◌, ◌≢◌, ◌⊎◌, ◌↔◌, inl, inr, ⊎_elim, ℕ, ◌+◌, ◌-◌, ◌^◌, ◌≤◌, ◌<◌, max, min, Bool, true, false, ◌&&◌, ◌||◌, nat_le, nat_lt, nat_eq, List, [], ◌∷◌, ◌++◌, length, get_or, take, drop, refl, sym, ◌∙◌, ap, subst, arith, IsFalse, IsTrue, length-append, length-drop, if◌then◌else◌}
+use Rattle.std.proofs.Common.{◌≡◌, ◌≢◌, ◌⊎◌, inl, inr, ⊎_elim, ℕ, ◌+◌, ◌-◌, ◌≤◌, ◌<◌, max, Bool, true, false, ◌||◌, nat_le, List, [], ◌∷◌, ◌++◌, length, get_or, take, drop, refl, sym, ◌∙◌, ap, subst, arith, IsFalse, length-append, length-drop, if◌then◌else◌}
 use Rattle.std.proofs.lemmas.List.{ext_get_or, get_or-take, get_or-drop, get_or_append_left, get_or-append_right, length-take-le, get_or_past}
 use Rattle.std.proofs.lemmas.Bool.Decides.{nat_tests}
 use Rattle.disk.specs.declared.file.File.{File}
 use Rattle.disk.specs.declared.file.File.TheVariants.{Choice, Left, Right}
 use Rattle.disk.specs.Images.{Pending, Within, IsImage, Images, Each, IsStill, resting, covers, end_of_lengths, reached, after_write, after_cut, at_file, same_file, patched}
-use Rattle.disk.specs.Moments.{Elapses, Moments}
+use Rattle.disk.specs.Moments.{Moments}
 
 -- files
 
@@ -116,8 +116,8 @@ same_front p c q image least base closed =
     let lc = length-take-le q c long in
     let lb = length-take-le q p.base base in
     ext_get_or 0 (take q c) (take q p.base) (lc ∙ sym lb) (λ k below.
-        let at : k < q = omega (arith, below, lc) in
-        get_or-take q c k 0 at ∙ image.same k (omega (arith, at, base)) (omega (arith, at, long)) (closed k at) ∙ sym (get_or-take q p.base k 0 at))
+    let at : k < q = omega (arith, below, lc) in
+    get_or-take q c k 0 at ∙ image.same k (omega (arith, at, base)) (omega (arith, at, long)) (closed k at) ∙ sym (get_or-take q p.base k 0 at))
 
 -- after a write to a still file each image agrees before the write with what the file held
 pub front_after_write : (at n q : ℕ) (b c : List ℕ) → IsImage (after_write at n (resting b)) c → q ≤ at → q ≤ length b → take q c ≡ take q b
@@ -139,14 +139,14 @@ patch old at bytes new le is =
     let lt = length-take-le at old le in
     let lf : length (take at old ++ bytes) ≡ at + n = length-append (take at old) bytes ∙ ap (λ m. m + n) lt in
     let front : (k : ℕ) → k < at + n → get_or new k 0 ≡ get_or (take at old ++ bytes) k 0 =
-      λ k below. ap (λ (l : List ℕ). get_or l k 0) is ∙ get_or_append_left (take at old ++ bytes) (drop (at + n) old) 0 k (omega (arith, below, lf)) in
+    λ k below. ap (λ (l : List ℕ). get_or l k 0) is ∙ get_or_append_left (take at old ++ bytes) (drop (at + n) old) 0 k (omega (arith, below, lf)) in
     record {
       size = ap length is ∙ length-append (take at old ++ bytes) (drop (at + n) old) ∙ omega (arith, lf, length-drop (at + n) old);
       inside = λ k below. front (at + k) (omega (arith, below)) ∙ get_or-append_right (take at old) bytes at (at + k) 0 lt (omega arith) ∙ ap (λ m. get_or bytes m 0) (omega arith);
       outside = λ k out. ⊎_elim
-        (λ low. front k (omega (arith, low)) ∙ get_or_append_left (take at old) bytes 0 k (omega (arith, low, lt)) ∙ get_or-take at old k 0 low)
-        (λ high. ap (λ (l : List ℕ). get_or l k 0) is ∙ get_or-append_right (take at old ++ bytes) (drop (at + n) old) (at + n) k 0 lf high ∙ get_or-drop (at + n) old (k - (at + n)) 0 ∙ ap (λ m. get_or old m 0) (omega (arith, high)))
-        out;
+          (λ low. front k (omega (arith, low)) ∙ get_or_append_left (take at old) bytes 0 k (omega (arith, low, lt)) ∙ get_or-take at old k 0 low)
+          (λ high. ap (λ (l : List ℕ). get_or l k 0) is ∙ get_or-append_right (take at old ++ bytes) (drop (at + n) old) (at + n) k 0 lf high ∙ get_or-drop (at + n) old (k - (at + n)) 0 ∙ ap (λ m. get_or old m 0) (omega (arith, high)))
+          out;
     }
 
 -- a list that is written over place by place is that list
@@ -154,12 +154,12 @@ pub patch_is : (old : List ℕ) (at : ℕ) (bytes new : List ℕ) → at ≤ len
 patch_is old at bytes new le p =
     let whole = patch old at bytes (patched old at bytes) le refl in
     ext_get_or 0 new (patched old at bytes) (p.size ∙ sym whole.size) (λ k below. ⊎_elim
-      (λ (out : (k < at) ⊎ (at + length bytes ≤ k)). p.outside k out ∙ sym (whole.outside k out))
-      (λ (mid : (at ≤ k) × (k < at + length bytes)).
-        let there : k ≡ at + (k - at) = omega (arith, mid.0) in
-        let less : k - at < length bytes = omega (arith, mid.0, mid.1) in
-        ap (λ m. get_or new m 0) there ∙ p.inside (k - at) less ∙ sym (whole.inside (k - at) less) ∙ ap (λ m. get_or (patched old at bytes) m 0) (sym there))
-      (place at (length bytes) k))
+    (λ (out : (k < at) ⊎ (at + length bytes ≤ k)). p.outside k out ∙ sym (whole.outside k out))
+    (λ (mid : (at ≤ k) × (k < at + length bytes)).
+    let there : k ≡ at + (k - at) = omega (arith, mid.0) in
+    let less : k - at < length bytes = omega (arith, mid.0, mid.1) in
+    ap (λ m. get_or new m 0) there ∙ p.inside (k - at) less ∙ sym (whole.inside (k - at) less) ∙ ap (λ m. get_or (patched old at bytes) m 0) (sym there))
+    (place at (length bytes) k))
   where
     place : (at n k : ℕ) → ((k < at) ⊎ (at + n ≤ k)) ⊎ ((at ≤ k) × (k < at + n))
     place at n k = grind arith
@@ -183,9 +183,9 @@ one_byte b c at inside image =
       size = omega (arith, image.no_shorter, image.no_longer, most, inside);
       inside = λ k below. let none : k ≡ 0 = omega (arith, below) in ap (λ m. get_or c (at + m) 0) none ∙ ap (λ m. get_or c m 0) (omega arith) ∙ sym (ap (λ m. get_or (get_or c at 0 ∷ []) m 0) none);
       outside = λ k out. ⊎_elim
-        (λ (below : k < length b). image.same k below (omega (arith, below, image.no_shorter)) (or_none false (covers at 1 k) refl (uncovered at 1 k out)))
-        (λ (past : length b ≤ k). get_or_past c k 0 (omega (arith, past, image.no_longer, most, inside)) ∙ sym (get_or_past b k 0 past))
-        (below_or_past k (length b));
+          (λ (below : k < length b). image.same k below (omega (arith, below, image.no_shorter)) (or_none false (covers at 1 k) refl (uncovered at 1 k out)))
+          (λ (past : length b ≤ k). get_or_past c k 0 (omega (arith, past, image.no_longer, most, inside)) ∙ sym (get_or_past b k 0 past))
+          (below_or_past k (length b));
     })
   where
     below_or_past : (k n : ℕ) → (k < n) ⊎ (n ≤ k)
@@ -210,9 +210,9 @@ goes_on clock may_leave old mid new P first second = record {
   later = omega (arith, first.later, second.later);
   kept = λ t i le. let a = first.kept t i le in let b = second.kept t i (omega (arith, le, first.later)) in (λ x. a.0 (b.0 x), λ x. b.1 (a.1 x));
   added = λ t i above le now. ⊎_elim
-    (λ early. first.added t i above early ((second.kept t i early).0 now))
-    (λ late. second.added t i late le now)
-    (nat_cases t (clock mid));
+      (λ early. first.added t i above early ((second.kept t i early).0 now))
+      (λ late. second.added t i late le now)
+      (nat_cases t (clock mid));
 }
 
 -- a weaker fact of the images that a run adds

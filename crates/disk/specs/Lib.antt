@@ -7,3 +7,4 @@ pub mod MemDisk
 pub mod MemLaws
 pub mod Moments
 pub mod Slots
+pub mod Stops

@@ -1,5 +1,5 @@
 -- A disk in memory: what it held at first, and its calls.
-use Rattle.std.specs.Prelude.{◌≡◌, ◌⊎◌, ℕ, ◌+◌, ◌-◌, ◌^◌, ◌≤◌, Bool, ◌&&◌, nat_le, nat_lt, if◌then◌else◌, List, [], ◌∷◌, ◌++◌, length, take, Contains, OnOk, OnErr, IsErr}
+use Rattle.std.specs.Prelude.{◌≡◌, ◌⊎◌, ℕ, ◌+◌, ◌-◌, ◌^◌, ◌≤◌, ◌&&◌, nat_le, nat_lt, if◌then◌else◌, List, [], ◌∷◌, ◌++◌, length, take, Contains, OnOk, OnErr, IsErr}
 use Rattle.std.specs.declared.result.Result.{Result}
 use Rattle.disk.specs.Counted.{counted}
 use Rattle.disk.specs.Images.{Pending, Images, Each, resting, after_write, after_cut, same_file, end_of_lengths, patched}
@@ -21,8 +21,8 @@ resting_state bytes = record { held = bytes; pending = resting bytes }
 -- a change of the file
 abbrev pub step : Change → State → State
 step (Wrote at bytes) s = if nat_le at (length s.held) && nat_lt (at + length bytes) end_of_lengths
-  then record { held = patched s.held at bytes; pending = after_write at (length bytes) s.pending }
-  else s
+    then record { held = patched s.held at bytes; pending = after_write at (length bytes) s.pending }
+    else s
 step (WriteFailed at n) s = record { held = s.held; pending = after_write at n s.pending }
 step (Cut to) s = record { held = take to s.held; pending = after_cut to s.pending }
 step (CutFailed to) s = record { held = s.held; pending = after_cut to s.pending }
@@ -106,8 +106,8 @@ IsListed d = Contains d.fails (counted d.calls)
 abbrev pub HasFailed : MemRecord → MemRecord → Type 0 → (MemRecord → MemRecord) → Type 0
 HasFailed old new TooFar recorded =
     ((old.clock ≡ 2 ^ 64 - 1) × (new ≡ blamed (called old)))
-  ⊎ (new ≡ hungry (ticked (called old)))
-  ⊎ ((IsListed old ⊎ TooFar) × (new ≡ blamed (recorded (ticked (called old)))))
+    ⊎ (new ≡ hungry (ticked (called old)))
+    ⊎ ((IsListed old ⊎ TooFar) × (new ≡ blamed (recorded (ticked (called old)))))
 
 -- A call that may change a file: what it does where it is good, and where it fails. At the end of the clock, where it is listed or would
 -- reach too far, it fails.

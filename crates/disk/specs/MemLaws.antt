@@ -1,5 +1,5 @@
 -- What a disk in memory reads as is one of its images at the present.
-use Rattle.std.specs.Prelude.{◌≡◌, ℕ, ◌+◌, ◌≤◌, ◌<◌, Bool, true, false, ◌&&◌, nat_le, nat_lt, if◌then◌else◌, List, [], ◌∷◌, length, get_or, take, refl}
+use Rattle.std.specs.Prelude.{◌≡◌, ℕ, ◌+◌, ◌≤◌, ◌<◌, Bool, true, false, ◌&&◌, nat_le, nat_lt, if◌then◌else◌, List, [], ◌∷◌, length, take, refl}
 use Rattle.std.proofs.Common.{⊎_elim, ◌∙◌, arith, length-take}
 use Rattle.std.proofs.lemmas.Bool.Decides.{nat_tests}
 use Rattle.std.proofs.lemmas.List.{get_or-take}
@@ -7,7 +7,7 @@ use Rattle.disk.specs.declared.file.File.{File}
 use Rattle.disk.specs.declared.log.Entry.{Entry}
 use Rattle.disk.specs.declared.log.Change.{Change}
 use Rattle.disk.specs.declared.log.Change.TheVariants.{Wrote, WriteFailed, Cut, CutFailed, Synced}
-use Rattle.disk.specs.Images.{Pending, IsImage, covers, end_of_lengths, after_write, after_cut, same_file, patched}
+use Rattle.disk.specs.Images.{IsImage, covers, end_of_lengths, after_write, after_cut, same_file, patched}
 use Rattle.disk.specs.ImageLaws.{patch, or_parts, outside_of_write, within_image, within_write, within_cut, resting_image, reached_short}
 use Rattle.disk.specs.MemDisk.{State, resting_state, step, one, replay, MemRecord, mem_held, mem_may_leave}
 use Rattle.disk.specs.Slots.{file_of}
@@ -25,10 +25,10 @@ wrote_good at bytes s h le short =
       no_shorter = omega (arith, p.size, h.no_shorter);
       no_longer = omega (arith, p.size, h.no_longer, g);
       same = λ k base long closed.
-        let parts = or_parts (s.pending.free k) (covers at (length bytes) k) closed in
-        let out = outside_of_write at (length bytes) k parts.1 in
-        let within : k < length s.held = ⊎_elim (λ low. omega (arith, low, le)) (λ high. omega (arith, high, long, p.size)) out in
-        p.outside k out ∙ h.same k base within parts.0;
+          let parts = or_parts (s.pending.free k) (covers at (length bytes) k) closed in
+          let out = outside_of_write at (length bytes) k parts.1 in
+          let within : k < length s.held = ⊎_elim (λ low. omega (arith, low, le)) (λ high. omega (arith, high, long, p.size)) out in
+          p.outside k out ∙ h.same k base within parts.0;
     }
 
 cut_good : (to : ℕ) (s : State) → IsGood s → IsImage (after_cut to s.pending) (take to s.held)

@@ -1,5 +1,5 @@
 -- The contents of the three files of a disk in memory.
-use Rattle.std.specs.Prelude.{◌≡◌, ℕ, Bool, true, false, List}
+use Rattle.std.specs.Prelude.{◌≡◌, ℕ, false, List}
 use Rattle.disk.specs.Images.{same_file}
 use Rattle.disk.specs.declared.file.File.{File}
 use Rattle.disk.specs.declared.file.File.TheVariants.{Choice, Left, Right}

@@ -8,6 +8,7 @@ mod file;
 mod log;
 mod mem_disk;
 mod slots;
+mod stop;
 
 pub use disk::Disk;
 pub use fail_list::FailList;

@@ -2,9 +2,10 @@ ghost use Rattle.std.specs.Prelude.{◌≡◌, ◌≤◌, ◌⊎◌, ◌↔◌, 
 ghost use Rattle.basis.specs.Counts.{HasCause};
 ghost use Rattle.disk.specs.Counted.{counted};
 ghost use Rattle.disk.specs.Images.{Images, end_of_lengths, patched, resting, after_write, after_cut, at_file, IsImage, Each, IsStill, Within, Becomes, OthersHold, OthersWithin};
-ghost use Rattle.disk.specs.MemDisk.{MemRecord, mem_held, mem_pending, mem_may_leave, fresh, called, ticked, blamed, hungry, noted, InPast, KeepsHeld, IsListed, IsWriteCall, IsCutCall, IsSyncCall};
+ghost use Rattle.disk.specs.MemDisk.{MemRecord, state_at, mem_held, mem_pending, mem_may_leave, fresh, called, ticked, blamed, hungry, noted, InPast, KeepsHeld, IsListed, IsWriteCall, IsCutCall, IsSyncCall};
 ghost use Rattle.disk.specs.Moments.{Elapses, Ticks, Unchanged};
 ghost use Rattle.disk.specs.Slots.{file_of};
+ghost use Rattle.disk.specs.Stops.{IsPicked};
 ghost use Rattle.disk.specs.declared.file.File.{File as FileS};
 
 use crate::disk::Disk;
@@ -13,6 +14,7 @@ use crate::failed::Failed;
 use crate::file::File;
 use crate::log::{Change, Entry};
 use crate::slots::{Slots, fits};
+use crate::stop::image_of;
 use basis::Memory;
 use minor_version::Blob;
 use std::alloc::Global;
@@ -43,8 +45,9 @@ impl Model for MemDisk {
     ghost view = { λ m. record { first = first_in m.slots; log = m.log.items; clock = m.clock; faults = m.faults; starved = m.starved; calls = m.calls; fails = m.fail } };
 
     ghost invariant = { λ m. record {
-        past : InPast m.clock m.log.items;
-        held : (f : FileS) → held_in m.slots f ≡ (state_in (first_in m.slots) m.log.items m.clock f).held } };
+      past : InPast m.clock m.log.items;
+      held : (f : FileS) → held_in m.slots f ≡ (state_in (first_in m.slots) m.log.items m.clock f).held;
+    } };
 }
 
 fn append(log: &mut Vec<Entry>, entry: Entry) -> Result<(), Memory>
@@ -108,6 +111,37 @@ impl MemDisk {
         ensures images { (images : Images) → mem_may_leave self.new self.new.clock images ↔ mem_may_leave self.old self.old.clock images }
     {
         self.clock = self.clock.saturating_add(1);
+    }
+
+    /// A disk as a stop at the moment leaves it: still, with its counts at 0 and no call to fail. Pick 0 loses all that is
+    /// pending, pick 1 keeps it, and any other takes the greatest length, and puts the byte `pick` modulo 256 wherever any
+    /// byte may stand.
+    pub fn after_stop(&self, t: u64, pick: u64) -> Result<MemDisk, Memory>
+        requires { t ≤ self.now.clock }
+        ensures image { IfOk result (λ d. mem_may_leave self.now t (mem_held d)) }
+        ensures picked { IfOk result (λ d. (f : FileS) → IsPicked pick (state_at self.now t f) (mem_held d f)) }
+        ensures still { IfOk result (λ d. (f : FileS) → IsStill (mem_held d) (mem_pending d) f) }
+        ensures fresh { IfOk result (λ d. d ≡ fresh d.first []) }
+    {
+        let choice = self.image(File::Choice, t, pick)?;
+        let left = self.image(File::Left, t, pick)?;
+        let right = self.image(File::Right, t, pick)?;
+        let fail = FailList::new(self.alloc, &[])?;
+        Ok(MemDisk::new(self.alloc, choice, left, right, fail))
+    }
+
+    // What a stop at the moment leaves of a file.
+    fn image(&self, file: File, t: u64, pick: u64) -> Result<Blob, Memory>
+        ensures { IfOk result (λ image. IsPicked pick (state_at self.now t file) image) }
+    {
+        image_of(
+            self.alloc,
+            self.slots.first(file),
+            self.log.as_slice(),
+            file,
+            t,
+            pick,
+        )
     }
 }
 
