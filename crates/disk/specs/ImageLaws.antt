@@ -109,6 +109,13 @@ still_image b c image = let size : length c ≡ length b = omega (arith, image.n
 pub image_now : (held : Images) (pending : File → Pending) (file : File) (i : Images) → IsStill held pending file → Each pending i → i file ≡ held file
 image_now held pending file i still each = still_image (held file) (i file) (within_image _ _ (i file) still (each file))
 
+-- a place stays sure beside a write, and before a cut
+pub sure_beside_write : (at n k : ℕ) (p : Pending) → IsFalse (p.free k) → (k < at) ⊎ (at + n ≤ k) → IsFalse ((after_write at n p).free k)
+sure_beside_write at n k p sure out = or_none (p.free k) (covers at n k) sure (uncovered at n k out)
+
+pub sure_before_cut : (to k : ℕ) (p : Pending) → IsFalse (p.free k) → k < to → IsFalse ((after_cut to p).free k)
+sure_before_cut to k p sure below = or_none (p.free k) (nat_le to k) sure (grind (arith, nat_tests))
+
 -- each image agrees with the bytes of the last good sync before a place up to which nothing was done
 pub same_front : (p : Pending) (c : List ℕ) (q : ℕ) → IsImage p c → q ≤ p.least → q ≤ length p.base → ((k : ℕ) → k < q → IsFalse (p.free k)) → take q c ≡ take q p.base
 same_front p c q image least base closed =
@@ -121,11 +128,11 @@ same_front p c q image least base closed =
 
 -- after a write to a still file each image agrees before the write with what the file held
 pub front_after_write : (at n q : ℕ) (b c : List ℕ) → IsImage (after_write at n (resting b)) c → q ≤ at → q ≤ length b → take q c ≡ take q b
-front_after_write at n q b c image le long = same_front (after_write at n (resting b)) c q image long long (λ k below. or_none false (covers at n k) refl (uncovered at n k (inl (omega (arith, below, le)))))
+front_after_write at n q b c image le long = same_front (after_write at n (resting b)) c q image long long (λ k below. sure_beside_write at n k (resting b) refl (inl (omega (arith, below, le))))
 
 -- and so after a cut
 pub front_after_cut : (to q : ℕ) (b c : List ℕ) → IsImage (after_cut to (resting b)) c → q ≤ to → q ≤ length b → take q c ≡ take q b
-front_after_cut to q b c image le long = same_front (after_cut to (resting b)) c q image (omega (arith, le, long)) long (λ k below. or_none false (nat_le to k) refl (let lt : k < to = omega (arith, below, le) in grind (arith, nat_tests)))
+front_after_cut to q b c image le long = same_front (after_cut to (resting b)) c q image (omega (arith, le, long)) long (λ k below. sure_before_cut to k (resting b) refl (omega (arith, below, le)))
 
 -- what was written over, place by place
 pub record IsPatch (old : List ℕ) (at : ℕ) (bytes new : List ℕ) : Type 0 where

@@ -9,6 +9,8 @@ mod log;
 mod mem_disk;
 mod slots;
 mod stop;
+#[cfg(test)]
+mod tests;
 
 pub use disk::Disk;
 pub use fail_list::FailList;
