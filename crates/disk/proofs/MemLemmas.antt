@@ -1,6 +1,5 @@
 -- A disk in memory: what its states are after a call, by those before it.
 use Rattle.std.proofs.Common.{◌≡◌, ◌⊎◌, inl, inr, ⊎_elim, ℕ, ◌+◌, ◌≤◌, ◌<◌, Bool, true, false, ◌&&◌, nat_le, nat_lt, if◌then◌else◌, List, [], ◌∷◌, ◌++◌, length, take, refl, sym, ◌∙◌, ap, subst, arith}
-use Rattle.std.proofs.Math.Seq.{take-append_seam}
 use Rattle.std.proofs.lemmas.Bool.Decides.{nat_tests}
 use Rattle.disk.specs.declared.file.File.{File}
 use Rattle.disk.specs.declared.file.File.TheVariants.{Choice, Left, Right}
@@ -135,27 +134,9 @@ stands_cut held new first first' log log' clock file to h here others a b =
     moved new first first' (log ++ entry_of clock file (Cut to) ∷ []) log' clock a b
     (stands_pushed held new first log clock file (Cut to) h (here ∙ ap (λ (l : List ℕ). take to l) (h.held file)) others)
 
-pub stands_same : (held new : Images) (first first' : Three) (log log' : List Entry) (clock : ℕ) (file : File) → Stands held first log clock
-    → new file ≡ held file → OthersHold file held new → first' ≡ first → log' ≡ log → Stands new first' log' clock
-stands_same held new first first' log log' clock file h here others a b =
-    moved new first first' log log' clock a b (record {
-      past = h.past;
-      held = λ f. ⊎_elim
-          (λ (is : same_file f file ≡ true). subst (λ g. new g ≡ (state_in first log clock g).held) (sym (same_is f file is)) (here ∙ h.held file))
-          (λ (other : same_file f file ≡ false). others f other ∙ h.held f)
-          (bool_cases (same_file f file));
-    })
-
--- an entry that was taken back
-pub taken_back : (log more now : List Entry) (e : Entry) (n : ℕ) → n ≡ length log → more ≡ log ++ e ∷ [] → now ≡ take n more → now ≡ log
-taken_back log more now e n size grown is = is ∙ ap (λ l. take n l) grown ∙ ap (λ m. take m (log ++ e ∷ [])) size ∙ take-append_seam log (e ∷ [])
-
 -- the states of the present, at a later clock
 pub state_later : (d o : MemRecord) → d ≡ o → InPast d.clock d.log → (c : ℕ) → d.clock ≤ c → (f : File) → state_in d.first d.log c f ≡ state_at o o.clock f
 state_later d o v past c le f = replay_past d.clock c f d.log (resting_state (file_of d.first f)) past le ∙ ap (λ y. state_at y y.clock f) v
-
-pub past_of : (d o : MemRecord) → d ≡ o → InPast d.clock d.log → InPast o.clock o.log
-past_of d o v past = subst (λ y. InPast y.clock y.log) v past
 
 -- the lengths at the last good sync and since
 

@@ -70,6 +70,10 @@ module _ (old new : MemRecord) (past : InPast old.clock old.log) (file : File) (
   write_too_far (Ok u) call far = absurd (false_true (call.refused (inr far)))
   write_too_far (Err e) call far = ap (λ (h : Images). h file) (failed_held old new past file (end_of_lengths ≤ at + length bytes) (WriteFailed at (length bytes)) tt call.err)
 
+  pub write_kept : (result : Result Unit Failed) → IsWriteCall old new file at bytes result → OnErr result (mem_held new ≡ mem_held old)
+  write_kept (Ok u) call = tt
+  write_kept (Err e) call = failed_held old new past file (end_of_lengths ≤ at + length bytes) (WriteFailed at (length bytes)) tt call.err
+
 -- cuts
 
 module _ (old new : MemRecord) (past : InPast old.clock old.log) (file : File) (to : ℕ) where
@@ -84,6 +88,10 @@ module _ (old new : MemRecord) (past : InPast old.clock old.log) (file : File) (
   pub cut_failed : (result : Result Unit Failed) → IsCutCall old new file to result → OnErr result ((mem_held new file ≡ mem_held old file) ⊎ (mem_held new file ≡ take to (mem_held old file)))
   cut_failed (Ok u) call = tt
   cut_failed (Err e) call = inl (ap (λ (h : Images). h file) (failed_held old new past file ⊥ (CutFailed to) tt call.err))
+
+  pub cut_kept : (result : Result Unit Failed) → IsCutCall old new file to result → OnErr result (mem_held new ≡ mem_held old)
+  cut_kept (Ok u) call = tt
+  cut_kept (Err e) call = failed_held old new past file ⊥ (CutFailed to) tt call.err
 
 -- syncs
 

@@ -388,6 +388,9 @@ impl Disk for MemDisk {
         ensures clock { Ticks self.old.clock self.new.clock result }
         ensures at_end { self.old.clock ≡ 2 ^ 64 - 1 → Unchanged (mem_held self.old) (mem_held self.new) (mem_pending self.old) (mem_pending self.new) self.old.clock (mem_may_leave self.old) (mem_may_leave self.new) }
         ensures cause { HasCause self.old.faults self.new.faults result }
+
+        // At `Failed` the files hold what they held.
+        ensures kept { OnErr result (mem_held self.new ≡ mem_held self.old) }
         ensures call { IsWriteCall self.old self.new file at bytes.now result }
     {
         self.write_call(file, at, bytes)
@@ -404,6 +407,9 @@ impl Disk for MemDisk {
         ensures clock { Ticks self.old.clock self.new.clock result }
         ensures at_end { self.old.clock ≡ 2 ^ 64 - 1 → Unchanged (mem_held self.old) (mem_held self.new) (mem_pending self.old) (mem_pending self.new) self.old.clock (mem_may_leave self.old) (mem_may_leave self.new) }
         ensures cause { HasCause self.old.faults self.new.faults result }
+
+        // At `Failed` the files hold what they held.
+        ensures kept { OnErr result (mem_held self.new ≡ mem_held self.old) }
         ensures call { IsCutCall self.old self.new file to result }
     {
         self.cut_call(file, to)

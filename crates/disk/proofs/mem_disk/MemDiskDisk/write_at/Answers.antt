@@ -1,4 +1,4 @@
-use Rattle.disk.proofs.TraitLemmas.{write_leaves, write_written, write_failed, write_too_far}
+use Rattle.disk.proofs.TraitLemmas.{write_leaves, write_written, write_failed, write_kept, write_too_far}
 use Rattle.disk.proofs.mem_disk.MemDiskDisk.write_at.Goals as goal
 
 pub returns-clause-written : goal.returns-clause-written
@@ -18,3 +18,6 @@ returns-clause-pending c = (write_leaves c.args.self.now c.write_call.new.self c
 
 pub returns-clause-time : goal.returns-clause-time
 returns-clause-time c = (write_leaves c.args.self.now c.write_call.new.self c.write_call.ensures.past c.args.file c.args.at c.args.bytes.now c.requires c.write_call.result c.write_call.ensures.call c.write_call.ensures.short).time
+
+pub returns-clause-kept : goal.returns-clause-kept
+returns-clause-kept c = write_kept c.args.self.now c.write_call.new.self c.write_call.ensures.past c.args.file c.args.at c.args.bytes.now c.requires c.write_call.result c.write_call.ensures.call
