@@ -11,4 +11,4 @@ mod value;
 pub use field::{Field, FieldList, Form, Path, Spell, SpellList};
 pub use map::{FieldPair, Fields};
 pub use table::{FieldRow, FieldRows, VersionTable};
-pub use value::{FieldType, FieldValue, TextList};
+pub use value::{FieldType, FieldValue, TextList, copy_of_texts};

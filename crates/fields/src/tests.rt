@@ -40,7 +40,7 @@ fn values_are_compared(rt: HostRuntime) -> Result<(), Fail> {
     ];
     for (i, one) in values.iter().enumerate() {
         for (j, other) in values.iter().enumerate() {
-            assert_eq!(rt; one.same(other), i == j);
+            assert_eq!(rt; one.duplicate(alloc)?.same(other), i == j);
         }
     }
     Ok(())

@@ -1,7 +1,8 @@
-ghost use Rattle.std.specs.Prelude.{◌≡◌, ◌↔◌, IsTrue};
+ghost use Rattle.std.specs.Prelude.{◌≡◌, ◌↔◌, IsTrue, IfOk};
 
-use basis::Sequence;
+use basis::{Memory, Sequence};
 use minor_version::Text;
+use std::alloc::Global;
 
 /// What a field holds.
 #[derive(Clone, Copy, Debug, PartialEq, Eq)]
@@ -24,7 +25,31 @@ pub enum FieldValue {
     List(TextList),
 }
 
+/// A copy of the texts.
+pub fn copy_of_texts(alloc: Global, texts: &[Text]) -> Result<TextList, Memory>
+    ensures { IfOk result (λ l. l ≡ texts.now) }
+{
+    let mut copies = TextList::new();
+    for text in texts {
+        let copy = text.duplicate(alloc)?;
+        copies.push(alloc, copy)?;
+    }
+    Ok(copies)
+}
+
 impl FieldValue {
+    /// A copy of the value.
+    pub fn duplicate(&self, alloc: Global) -> Result<Self, Memory>
+        ensures { IfOk result (λ v. v ≡ self.now) }
+    {
+        match self {
+            FieldValue::Bool(value) => Ok(FieldValue::Bool(*value)),
+            FieldValue::Int(value) => Ok(FieldValue::Int(*value)),
+            FieldValue::Text(text) => Ok(FieldValue::Text(text.duplicate(alloc)?)),
+            FieldValue::List(texts) => Ok(FieldValue::List(copy_of_texts(alloc, texts.items())?)),
+        }
+    }
+
     /// Whether both are the same value.
     pub fn same(&self, other: &FieldValue) -> bool
         ensures { IsTrue result ↔ (self.now ≡ other.now) }
