@@ -24,7 +24,7 @@ flip a b h = nat_list_cmp_total.antisymm b a ∙ ap ordering_reverse h
 below_chain : (a b c : List ℕ) → IsBelow a b → IsBelow b c → IsBelow a c
 below_chain a b c h k = nat_list_cmp_total.trans a b c h k
 
-below_differs : (a b : List ℕ) → IsBelow a b → a ≢ b
+pub below_differs : (a b : List ℕ) → IsBelow a b → a ≢ b
 below_differs a b h same = let e : slice_cmp nat_cmp b b ≡ Equal = tied_itself nat_list_cmp_total b in let g = subst (λ t. IsBelow t b) same h in cc
 
 differs : (a b : List ℕ) → a ≢ b → bytes_eq a b ≡ false

@@ -1,0 +1,11 @@
+pub mod TreeLemmas
+pub mod WritingLemmas
+pub mod ReadLemmas
+pub mod RoundLemmas
+pub mod PlaceLemmas
+pub mod MemberLemmas
+pub mod ShowLemmas
+pub mod StepLemmas
+pub mod DecimalLemmas
+pub mod ReachLemmas
+pub mod ValueLemmas

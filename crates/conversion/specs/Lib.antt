@@ -1,0 +1,6 @@
+pub mod Trees
+pub mod Writing
+pub mod Reading
+pub mod Showing
+pub mod Laws
+pub mod Code

@@ -1,0 +1,16 @@
+//! Objects as JSON in the versions of a resource: read as what their fields hold, and shown again.
+#![tactic(auto)]
+
+mod decimal;
+mod fault;
+mod mode;
+mod reach;
+mod read;
+mod show;
+mod value;
+mod write;
+
+pub use fault::{ReadCause, ReadFault};
+pub use mode::Mode;
+pub use read::read_fields;
+pub use show::show_fields;
