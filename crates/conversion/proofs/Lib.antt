@@ -9,3 +9,5 @@ pub mod StepLemmas
 pub mod DecimalLemmas
 pub mod ReachLemmas
 pub mod ValueLemmas
+pub mod SameLemmas
+pub mod FaultLemmas

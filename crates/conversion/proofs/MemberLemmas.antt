@@ -25,7 +25,7 @@ skip Less a b e = refl
 skip Equal a b e = absurd cc
 skip Greater a b e = refl
 
-skips : (q k : List ℕ) (json : Data) (ms : Members) → q ≢ k → get_member q (member k json ms) ≡ get_member q ms
+pub skips : (q k : List ℕ) (json : Data) (ms : Members) → q ≢ k → get_member q (member k json ms) ≡ get_member q ms
 skips q k json ms other = skip (slice_cmp nat_cmp q k) (get_member q ms) (Some json) (is_eq-slice_cmp q k ∙ differ (bytes_eq q k) refl)
   where
     differ : (b : Bool) → bytes_eq q k ≡ b → b ≡ false

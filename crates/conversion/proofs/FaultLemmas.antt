@@ -1,0 +1,101 @@
+-- A tree has one first fault, and conversion goes there and back.
+use Rattle.std.proofs.Common.{◌≡◌, ◌≢◌, ◌⊎◌, inl, inr, ℕ, ◌<◌, List, [], ◌∷◌, ◌++◌, length, map, Option, Some, None, IfSome, All, refl, sym, ◌∙◌, ap, ap₂, subst}
+use Rattle.std.specs.List.{AllByRecursion}
+use Rattle.std.proofs.lemmas.List.Elements.{recursion_from_All, All-from_recursion}
+use Rattle.fields.specs.Map.{IsMap, value_at}
+use Rattle.fields.specs.Table.{type_of, AreLawful}
+use Rattle.fields.specs.declared.map.FieldPair.{FieldPair}
+use Rattle.fields.specs.declared.table.FieldRow.{FieldRow}
+use Rattle.fields.specs.declared.value.FieldType.{FieldType}
+use Rattle.fields.specs.declared.value.FieldValue.{FieldValue}
+use Rattle.serde_json.specs.Data.{Data, null}
+use Rattle.conversion.specs.Trees.{Names, Stands, IsObject, IsBlocked}
+use Rattle.conversion.specs.Reading.{IsRead, Reads, IsMisspelled, IsFault, IsFirstFault, cause_of}
+use Rattle.conversion.specs.Showing.{IsOf, Shows}
+use Rattle.conversion.specs.Laws.{HasOneFault, SpellTheSame, GoesThereAndBack, Kind, kind_of}
+use Rattle.conversion.specs.declared.mode.Mode.{Mode}
+use Rattle.conversion.specs.declared.mode.Mode.TheVariants.{Stored}
+use Rattle.conversion.specs.declared.fault.ReadCause.{ReadCause}
+use Rattle.conversion.proofs.TreeLemmas.{parted, blocked_or_empty, blocked_stands}
+use Rattle.conversion.proofs.ReadLemmas.{fault_refutes, reads_as_one}
+use Rattle.conversion.proofs.RoundLemmas.{reads_back}
+use Rattle.conversion.proofs.SameLemmas.{shows_as_one}
+
+no_last : {X : Type 0} (xs : List X) → xs ++ [] ≡ xs
+no_last [] = refl
+no_last (x ∷ xs) = ap (λ ys. x ∷ ys) (no_last xs)
+
+-- ---- one fault
+
+one_block : (tree : Data) (path upto other : Names) → IsBlocked tree path upto → IsBlocked tree path other → upto ≡ other
+one_block tree path upto other h k = elim (parted upto h.rest other k.rest (sym h.parts ∙ k.parts)) [
+  | inl r ↦
+    let none : r.0 ≡ [] = blocked_or_empty tree upto r.0 h.there k.there h.stands h.not_object (subst (λ p. Stands tree p k.there) r.1 k.stands) in
+    sym (r.1 ∙ ap (λ x. upto ++ x) none ∙ no_last upto)
+  | inr r ↦
+    let none : r.0 ∷ r.1 ≡ [] = blocked_or_empty tree other (r.0 ∷ r.1) k.there h.there k.stands k.not_object (subst (λ p. Stands tree p h.there) r.2 h.stands) in
+    absurd cc
+]
+
+fault_at_row : (tree : Data) (row : FieldRow) (path other : Names) (cause why : ReadCause) → IsFault tree row path cause → IsFault tree row other why → (path ≡ other) × (cause ≡ why)
+fault_at_row tree row path other cause why (inl h) (inl k) = (one_block tree row.path path other h.0 k.0, h.1 ∙ sym k.1)
+fault_at_row tree row path other cause why (inl h) (inr k) = absurd (blocked_stands tree row.path path k.0.json h.0 k.0.stands)
+fault_at_row tree row path other cause why (inr h) (inl k) = absurd (blocked_stands tree row.path other h.0.json k.0 h.0.stands)
+fault_at_row tree row path other cause why (inr h) (inr k) = (h.1 ∙ sym k.1, h.2 ∙ sym k.2)
+
+abbrev IsFine : Mode → Data → FieldRow → Type 0
+IsFine mode tree row = (read : Option FieldValue) × IsRead mode tree row read
+
+one_row : (mode : Mode) (tree : Data) (before front : List FieldRow) (row r : FieldRow) (after rest : List FieldRow) (path other : Names) (cause why : ReadCause) → before ++ row ∷ after ≡ front ++ r ∷ rest → AllByRecursion (IsFine mode tree) before
+    → AllByRecursion (IsFine mode tree) front → IsFault tree row path cause → IsFault tree r other why → row ≡ r
+one_row mode tree [] [] row r after rest path other cause why same a b h k = cc
+one_row mode tree [] (x ∷ front) row r after rest path other cause why same a b h k =
+    let here : x ≡ row = cc in
+    let fine = subst (IsFine mode tree) here b.0 in
+    absurd (fault_refutes mode tree row path cause fine.0 h fine.1)
+one_row mode tree (x ∷ before) [] row r after rest path other cause why same a b h k =
+    let here : x ≡ r = cc in
+    let fine = subst (IsFine mode tree) here a.0 in
+    absurd (fault_refutes mode tree r other why fine.0 k fine.1)
+one_row mode tree (x ∷ before) (y ∷ front) row r after rest path other cause why same a b h k =
+    let tails : before ++ row ∷ after ≡ front ++ r ∷ rest = cc in
+    one_row mode tree before front row r after rest path other cause why tails a.1 b.1 h k
+
+pub one_fault : (mode : Mode) (rows : List FieldRow) (tree : Data) → HasOneFault mode rows tree
+one_fault mode rows tree path other cause why h k =
+    let same = one_row mode tree h.before k.before h.row k.row h.after k.after path other cause why (sym h.whole ∙ k.whole) (recursion_from_All (IsFine mode tree) h.before h.fine) (recursion_from_All (IsFine mode tree) k.before k.fine) h.faulty k.faulty in
+    fault_at_row tree h.row path other cause why h.faulty (subst (λ r. IsFault tree r other why) (sym same) k.faulty)
+
+-- ---- two versions of the same fields
+
+abbrev HasType : List FieldPair → Kind → Type 0
+HasType held k = IfSome (value_at held k.id) (λ v. type_of v ≡ k.ty)
+
+same_types : (held : List FieldPair) (rows others : List FieldRow) → map kind_of rows ≡ map kind_of others → AllByRecursion (λ r. HasType held (kind_of r)) rows → AllByRecursion (λ r. HasType held (kind_of r)) others
+same_types held [] [] same h = tt
+same_types held [] (o ∷ others) same h = absurd cc
+same_types held (r ∷ rows) [] same h = absurd cc
+same_types held (r ∷ rows) (o ∷ others) same h =
+    let first : kind_of r ≡ kind_of o = cc in
+    let rest : map kind_of rows ≡ map kind_of others = cc in
+    (subst (HasType held) first h.0, same_types held rows others rest h.1)
+
+same_ids : (id : List ℕ) (rows others : List FieldRow) → map kind_of rows ≡ map kind_of others → AllByRecursion (λ r. r.id ≢ id) others → AllByRecursion (λ r. r.id ≢ id) rows
+same_ids id [] others same h = tt
+same_ids id (r ∷ rows) [] same h = absurd cc
+same_ids id (r ∷ rows) (o ∷ others) same h =
+    let first : kind_of r ≡ kind_of o = cc in
+    let rest : map kind_of rows ≡ map kind_of others = cc in
+    (λ e. h.0 (sym (ap (λ (k : Kind). k.id) first) ∙ e), same_ids id rows others rest h.1)
+
+pub same_of : (rows others : List FieldRow) (held : List FieldPair) → SpellTheSame rows others → IsOf rows held → IsOf others held
+same_of rows others held same h = record {
+  typed = All-from_recursion (λ r. HasType held (kind_of r)) others (same_types held rows others same (recursion_from_All (λ r. HasType held (kind_of r)) rows h.typed));
+  only = λ id none. h.only id (All-from_recursion (λ (r : FieldRow). r.id ≢ id) rows (same_ids id rows others same (recursion_from_All (λ (r : FieldRow). r.id ≢ id) others none)));
+}
+
+pub goes_back : (rows others : List FieldRow) (held : List FieldPair) → AreLawful rows → AreLawful others → IsMap held → IsOf rows held → SpellTheSame rows others → GoesThereAndBack rows others held
+goes_back rows others held lawful other_lawful up of same here there back read again shown is_read shown_there read_there shown_back =
+    let first : read ≡ held = reads_as_one Stored rows here read held is_read (reads_back rows held here lawful up of shown) in
+    let second : again ≡ held = reads_as_one Stored others there again held read_there (reads_back others held there other_lawful up (same_of rows others held same of) (subst (λ m. Shows others m there) first shown_there)) in
+    (second, shows_as_one rows held back here (subst (λ m. Shows rows m back) second shown_back) shown)
