@@ -2,6 +2,7 @@
 #![tactic(auto)]
 
 mod field;
+mod lawful;
 mod map;
 mod table;
 #[cfg(test)]
@@ -9,6 +10,7 @@ mod tests;
 mod value;
 
 pub use field::{Field, FieldList, Form, Path, Spell, SpellList};
+pub use lawful::{are_apart, is_default_of, is_field_path, is_form_of};
 pub use map::{FieldPair, Fields};
 pub use table::{FieldRow, FieldRows, VersionTable};
 pub use value::{FieldType, FieldValue, TextList, copy_of_texts};

@@ -1,4 +1,5 @@
 ghost use Rattle.std.specs.Prelude.{◌≡◌, ◌↔◌, IsTrue, IfOk};
+ghost use Rattle.fields.specs.Table.{type_of};
 
 use basis::{Memory, Sequence};
 use minor_version::Text;
@@ -38,6 +39,18 @@ pub fn copy_of_texts(alloc: Global, texts: &[Text]) -> Result<TextList, Memory>
 }
 
 impl FieldValue {
+    /// The type of the value.
+    pub fn ty(&self) -> FieldType
+        ensures { result ≡ type_of self.now }
+    {
+        match self {
+            FieldValue::Bool(_) => FieldType::Bool,
+            FieldValue::Int(_) => FieldType::Int,
+            FieldValue::Text(_) => FieldType::Text,
+            FieldValue::List(_) => FieldType::TextList,
+        }
+    }
+
     /// A copy of the value.
     pub fn duplicate(&self, alloc: Global) -> Result<Self, Memory>
         ensures { IfOk result (λ v. v ≡ self.now) }
