@@ -1,0 +1,36 @@
+-- Entries listed by names of three parts.
+use Rattle.std.specs.Prelude.{ℕ, ◌≡◌, List, [], Option, map, filter, All, Any, IfSome, IsSomeAnd}
+use Rattle.std.specs.Option.{option_map_or}
+use Rattle.std.specs.BTreeMap.{BTreeMap}
+use Rattle.std.specs.Borrow.{Bor}
+use Rattle.std.specs.Global.{Vec}
+use Rattle.field_rules.specs.NameMap.{value_at, is_same_name}
+
+-- the entries that are lent
+abbrev pub lent : {E : Type 0} → List (Bor E) → List E
+lent items = map (λ b. b.now) items
+
+abbrev pub lent_in : {E : Type 0} → Option (Bor (Vec (Bor E))) → List E
+lent_in items = option_map_or (λ v. lent v.now.items) items []
+
+-- the entries listed at the name with these parts
+abbrev pub listed_at : {E : Type 0} → BTreeMap (Bor (List ℕ) × Bor (List ℕ) × Bor (List ℕ)) (Vec (Bor E)) → List ℕ → List ℕ → List ℕ → List E
+listed_at m a b c = option_map_or (λ v. lent v.items) (value_at m a b c) []
+
+-- a name of three parts
+pub record Name : Type 0 where
+  pub first : List ℕ
+  pub second : List ℕ
+  pub third : List ℕ
+
+-- at each name the entries of that name are listed, in order
+abbrev pub IsListing : {E : Type 0} → (E → Name) → List E → BTreeMap (Bor (List ℕ) × Bor (List ℕ) × Bor (List ℕ)) (Vec (Bor E)) → Type 0
+IsListing {E} name entries m = (a b c : List ℕ) → listed_at m a b c ≡ filter (λ x. is_same_name (name x).first (name x).second (name x).third a b c) entries
+
+-- one of the entries that are lent is so
+abbrev pub HasLent : {E : Type 0} → (E → Type 0) → Option (Bor (Vec (Bor E))) → Type 0
+HasLent P entries = IsSomeAnd entries (λ v. Any (λ b. P b.now) v.now.items)
+
+-- each of the entries that are lent is so
+abbrev pub EachLent : {E : Type 0} → (E → Type 0) → Option (Bor (Vec (Bor E))) → Type 0
+EachLent P entries = IfSome entries (λ v. All (λ b. P b.now) v.now.items)

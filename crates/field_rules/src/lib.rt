@@ -1,0 +1,6 @@
+//! The rules that the fields and spellings of a release history keep, and the first fault of those that break them.
+#![tactic(auto)]
+
+mod entries;
+mod keys;
+mod listing;
