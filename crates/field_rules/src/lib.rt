@@ -4,3 +4,5 @@
 mod entries;
 mod keys;
 mod listing;
+mod paths;
+mod types;
