@@ -1,2 +1,3 @@
 pub mod NameLemmas
 pub mod ListingLemmas
+pub mod IndexLemmas

@@ -6,3 +6,5 @@ pub mod Rules
 pub mod NameMap
 pub mod Listing
 pub mod Keys
+pub mod IndexFields
+pub mod Answers

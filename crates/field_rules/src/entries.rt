@@ -13,7 +13,8 @@ use gate_spec::GateEntry;
 use lifecycle::{ApiChange, ApiEntry};
 use minor_version::{Minor, Text};
 
-fn is_introduction(change: &ApiChange) -> bool
+/// Whether the change is an introduction.
+pub fn is_introduction(change: &ApiChange) -> bool
     ensures { IsTrue result ↔ IsIntroduction change.now }
 {
     matches!(change, ApiChange::Introduced { .. })

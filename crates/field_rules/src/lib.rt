@@ -2,6 +2,7 @@
 #![tactic(auto)]
 
 mod entries;
+mod index;
 mod keys;
 mod listing;
 mod paths;

@@ -10,14 +10,11 @@ use borrow.Author.Tests.{tests}
 use Rattle.fields.specs.declared.field.Spell.{Spell}
 use Rattle.field_rules.specs.Listing.{EachLent}
 use Rattle.field_rules.specs.Paths.{AreApart}
+use Rattle.field_rules.proofs.ListingLemmas.{each_told}
 use Rattle.field_rules.proofs.entries.is_apart_from.Goals as goal
-
-told : {X : Type 0} (Yes : X → Type 0) (xs : List X) (r : Bool) → MatchBool r (AllWithin Yes xs 0 (length xs)) ((k : ℕ) × (k < length xs) × HoldsAt (λ x. ¬ Yes x) xs k) → IsTrue r ↔ All Yes xs
-told {X} Yes xs true h = (λ t. λ (k : ℕ) (d : X) (within : k < length xs). h k d (omega arith) within, λ all. refl)
-told Yes xs false h = (λ t. absurd (false≢true t), λ all. absurd (let d = (entry_at xs h.0 h.1).0 in h.2 d (all h.0 d h.1)))
 
 pub returns-in-Some : goal.returns-in-Some
 returns-in-Some c =
     let h = cases_from_all _ _ _ (λ (x : Bor Spell). AreApart c.args.spell.now.path x.now.path) (λ (x : Bor Spell). ¬ AreApart c.args.spell.now.path x.now.path) c.all.ensures.ran (YieldsList-from_slice c.in-Some.entries.now.items cc) (λ x q k. search (rules, tests)) (λ x q k. search (rules, tests)) in
     subst (λ (o : Option (Bor (Vec (Bor Spell)))). IsTrue c.all.result ↔ EachLent (λ x. AreApart c.args.spell.now.path x.path) o) (sym c.in-Some.is)
-    (told (λ (x : Bor Spell). AreApart c.args.spell.now.path x.now.path) c.in-Some.entries.now.items c.all.result h)
+    (each_told (λ (x : Bor Spell). AreApart c.args.spell.now.path x.now.path) c.in-Some.entries.now.items c.all.result h)
