@@ -1,3 +1,5 @@
 pub mod NameLemmas
 pub mod ListingLemmas
 pub mod IndexLemmas
+pub mod TestLemmas
+pub mod FaultLemmas

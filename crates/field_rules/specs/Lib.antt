@@ -8,3 +8,4 @@ pub mod Listing
 pub mod Keys
 pub mod IndexFields
 pub mod Answers
+pub mod Fault

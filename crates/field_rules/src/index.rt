@@ -90,6 +90,13 @@ impl<'a> Index<'a> {
         })
     }
 
+    /// The history's first release.
+    pub fn first(&self) -> Minor
+        ensures { result ≡ self.now.first }
+    {
+        self.first
+    }
+
     /// Whether some version of the field's resource is introduced by this release.
     pub fn is_versioned_by(&self, field: &'a Field, by: Minor) -> bool
         ensures { IsTrue result ↔ Any (λ x. IntroducesVersionOf field.now.group field.now.resource x × (x.since ≤ by)) self.now.apis }

@@ -1,9 +1,14 @@
 //! The rules that the fields and spellings of a release history keep, and the first fault of those that break them.
 #![tactic(auto)]
 
+mod broken;
 mod entries;
+mod field_tests;
 mod index;
 mod keys;
 mod listing;
 mod paths;
+mod spell_tests;
 mod types;
+
+pub use broken::{Broken, first_broken};

@@ -1,0 +1,9 @@
+use Rattle.std.proofs.Common.{take}
+use Rattle.field_rules.specs.Keys.{version_of_spell}
+use Rattle.field_rules.specs.Listing.{IsListing}
+use Rattle.field_rules.specs.SpellRules.{HasOwnPath}
+use Rattle.schemas.proofs.PlaceLemmas.{EachBelow}
+use Rattle.field_rules.proofs.spell_tests.first_met_path.Given as goal
+
+abbrev pub invariant-loop-i : goal.invariant-loop-i
+invariant-loop-i l = record { before : EachBelow HasOwnPath l.spells l.i; earlier : IsListing version_of_spell (take l.i l.spells) l.earlier }

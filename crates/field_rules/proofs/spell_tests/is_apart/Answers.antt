@@ -1,0 +1,10 @@
+use Rattle.std.proofs.Common.{List}
+use Rattle.fields.specs.declared.field.Spell.{Spell}
+use Rattle.field_rules.specs.Keys.{version_of_spell}
+use Rattle.field_rules.specs.Listing.{IsListing}
+use Rattle.field_rules.proofs.TestLemmas.{apart}
+use Rattle.field_rules.proofs.spell_tests.is_apart.Goals as goal
+
+pub returns : goal.returns
+returns c = λ (spells : List Spell) (listing : IsListing version_of_spell spells c.args.earlier.now).
+    apart c.args.spell.now spells c.args.earlier.now c.listed.result c.is_apart_from.result c.bytes-group.result.now c.bytes-version.result.now c.bytes-resource.result.now listing c.listed.ensures c.bytes-group.ensures c.bytes-version.ensures c.bytes-resource.ensures c.is_apart_from.ensures
