@@ -1,5 +1,5 @@
 -- Which fault each test finds, behind those that find none.
-use Rattle.std.proofs.Common.{ℕ, ◌≡◌, Option, Some, refl, subst, sym, inl, inr}
+use Rattle.std.proofs.Common.{ℕ, refl, inl, inr}
 use Rattle.schemas.specs.declared.array.Array.TheVariants.{Field as FieldArray, Spell as SpellArray}
 use Rattle.schemas.specs.Places.{Each, Breaks, IsFirst}
 use Rattle.schemas.proofs.PlaceLemmas.{unbroken}

@@ -1,5 +1,5 @@
 -- What the entries listed at a name say of all.
-use Rattle.std.proofs.Common.{ℕ, ◌≡◌, ◌≤◌, ◌↔◌, List, [], Bool, true, Option, refl, sym, subst, ◌∙◌}
+use Rattle.std.proofs.Common.{ℕ, ◌≡◌, ◌≤◌, ◌↔◌, List, [], Bool, Option, refl, sym, subst, ◌∙◌}
 use Rattle.std.specs.Prelude.{All, Any, IsTrue, max}
 use Rattle.basis.proofs.ElementLemmas.{Any-weaker}
 use Rattle.fields.specs.declared.field.Field.{Field}
@@ -17,7 +17,7 @@ use Rattle.field_rules.specs.Answers.{IsSpelledIn, PairsWith}
 use Rattle.field_rules.specs.Rules.{Lists}
 use Rattle.field_rules.specs.SpellRules.{FitsType}
 use Rattle.field_rules.proofs.NameLemmas.{parts_same, same_parts}
-use Rattle.field_rules.proofs.ListingLemmas.{Listed, of_name, any_found, all_found}
+use Rattle.field_rules.proofs.ListingLemmas.{Listed, any_found, all_found}
 
 pub versioned_by : (xs ys : List ApiEntry) (m : Listed ApiEntry) (o : Option (Bor (Vec (Bor ApiEntry)))) (b : Bool) (p q g r : List ℕ) (by : ℕ) → IsListing resource_of_api xs m → xs ≡ ys → lent_in o ≡ listed_at m p q [] → p ≡ g → q ≡ r → (IsTrue b ↔ HasLent (λ x. IsIntroduction x.change × (x.since ≤ by)) o) → IsTrue b ↔ Any (λ x. IntroducesVersionOf g r x × (x.since ≤ by)) ys
 versioned_by xs ys m o b p q g r by listing same is at_g at_r test =

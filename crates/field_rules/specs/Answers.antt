@@ -1,5 +1,5 @@
 -- What an index answers of a field, a version and a spelling.
-use Rattle.std.specs.Prelude.{ℕ, ◌≡◌, ◌≤◌, max, List, Any}
+use Rattle.std.specs.Prelude.{◌≡◌, max, Any}
 use Rattle.fields.specs.declared.field.Field.{Field}
 use Rattle.fields.specs.declared.field.Spell.{Spell}
 use Rattle.lifecycle.specs.Entry.{subject, IsIntroduction}

@@ -1,5 +1,5 @@
 -- Which fields and versions belong together, and which spellings are theirs.
-use Rattle.std.specs.Prelude.{ℕ, ◌≡◌, ◌≤◌, ◌<◌, max, List, Some, Any, slice_get}
+use Rattle.std.specs.Prelude.{ℕ, ◌≡◌, max, List, Some, Any, slice_get}
 use Rattle.fields.specs.declared.field.Field.{Field}
 use Rattle.fields.specs.declared.field.Spell.{Spell}
 use Rattle.lifecycle.specs.Entry.{subject, IsIntroduction}

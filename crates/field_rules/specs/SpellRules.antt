@@ -1,13 +1,13 @@
 -- The rules on spellings, one entry at a time.
-use Rattle.std.specs.Prelude.{ℕ, ◌≡◌, ◌≤◌, List, length, All, Any, Option, IfSome}
+use Rattle.std.specs.Prelude.{◌≡◌, ◌≤◌, List, length, All, Any, Option, IfSome}
 use Rattle.fields.specs.declared.field.Field.{Field}
 use Rattle.fields.specs.declared.field.Form.{Form}
 use Rattle.fields.specs.declared.field.Form.TheVariants.{Same, Not, Decimal}
 use Rattle.fields.specs.declared.field.Spell.{Spell}
 use Rattle.fields.specs.declared.value.FieldType.{FieldType}
-use Rattle.fields.specs.declared.value.FieldType.TheVariants.{Bool as OfBool, Int as OfInt, Text as OfText, TextList as OfTextList}
+use Rattle.fields.specs.declared.value.FieldType.TheVariants.{Bool as OfBool, Int as OfInt, Text as OfText}
 use Rattle.fields.specs.declared.value.FieldValue.{FieldValue}
-use Rattle.fields.specs.declared.value.FieldValue.TheVariants.{Bool as ABool, Int as AnInt, Text as AText, List as AList}
+use Rattle.fields.specs.declared.value.FieldValue.TheVariants.{Bool as ABool, Int as AnInt, Text as AText}
 use Rattle.lifecycle.specs.declared.entry.ApiEntry.{ApiEntry}
 use Rattle.field_rules.specs.Pairs.{IsOfField, SpellsPair, AreOfOneVersion, AreOfOnePair}
 use Rattle.field_rules.specs.Paths.{AreApart, BeginsFree}

@@ -1,8 +1,8 @@
-use Rattle.std.proofs.Common.{ℕ, ◌≡◌, Option, Result, IfOk, sym, subst}
+use Rattle.std.proofs.Common.{ℕ, Option, IfOk, sym, subst}
 use Rattle.schemas.specs.Places.{Each, Breaks, IsFirst, FindsFirst}
 use Rattle.field_rules.specs.Fault.{FindsFault}
 use Rattle.field_rules.specs.FieldRules.{BelongsToResource, IsRequiredFairly, HasKnownGate, IsSpelledThroughout}
-use Rattle.field_rules.specs.Rules.{Lists, lists, AreLawful}
+use Rattle.field_rules.specs.Rules.{Lists, lists}
 use Rattle.field_rules.specs.SpellRules.{SpellsPairOnce, HasOwnPath, FitsField}
 use Rattle.field_rules.proofs.FaultLemmas.{belongs_fault, required_fault, gated_fault, spelled_fault, paired_fault, own_path_fault, fits_fault}
 use Rattle.field_rules.proofs.broken.first_broken.Goals as goal

@@ -1,11 +1,7 @@
-use Rattle.std.proofs.Common.{ℕ, List, ◌≡◌, ◌<◌, ◌≤◌, ◌↔◌, ◌∙◌, Bool, true, false, Option, Some, refl, sym, subst, IsTrue, rules, get_or, length, arith}
-use Rattle.std.specs.Prelude.{All, MatchBool}
-use Rattle.std.specs.List.{AllWithin, HoldsAt}
+use Rattle.std.proofs.Common.{◌↔◌, Option, sym, subst, IsTrue, rules}
 use Rattle.std.specs.Borrow.{Bor}
 use Rattle.std.specs.Global.{Vec}
 use Rattle.std.proofs.lemmas.Iterator.{cases_from_all, YieldsList-from_slice}
-use Rattle.std.proofs.lemmas.Bool.{false≢true}
-use Rattle.schemas.proofs.PreviousLemmas.{entry_at}
 use borrow.Author.Tests.{tests}
 use Rattle.fields.specs.declared.field.Spell.{Spell}
 use Rattle.field_rules.specs.Listing.{EachLent}

@@ -1,4 +1,4 @@
-use Rattle.std.proofs.Common.{◌≡◌, ◌≤◌, List, Option, length, refl, sym, subst, rules, arith}
+use Rattle.std.proofs.Common.{◌≤◌, List, Option, length, refl, sym, subst, rules, arith}
 use Rattle.std.specs.Prelude.{All}
 use Rattle.std.specs.Borrow.{Bor}
 use Rattle.std.specs.Global.{Vec}
