@@ -9,6 +9,8 @@ mod keys;
 mod listing;
 mod paths;
 mod spell_tests;
+#[cfg(test)]
+mod tests;
 mod types;
 
 pub use broken::{Broken, first_broken};
