@@ -59,48 +59,48 @@ forgotten_by xs ys m o b g v r by listing same is test =
     )) in
     subst (λ (l : List ApiEntry). IsTrue b ↔ Any Q l) same (λ t. both.0 (test.0 t), λ any. test.1 (both.1 any))
 
-pub spelling_in : (xs ys : List Spell) (m : Listed Spell) (o : Option (Bor (Vec (Bor Spell)))) (b : Bool) (p q t : List ℕ) (x : ApiEntry) (id : List ℕ) → IsListing version_of_spell xs m → xs ≡ ys → lent_in o ≡ listed_at m p q t → p ≡ x.group → q ≡ x.version → t ≡ x.resource → (IsTrue b ↔ HasLent (λ s. s.field ≡ id) o) → IsTrue b ↔ Any (λ s. IsOfVersion x s × (s.field ≡ id)) ys
+pub spelling_in : (xs ys : List Spell) (m : Listed Spell) (o : Option (Bor (Vec (Bor Spell)))) (b : Bool) (p q t : List ℕ) (x : ApiEntry) (id : List ℕ) → IsListing version_of_spell xs m → xs ≡ ys → lent_in o ≡ listed_at m p q t → p ≡ x.group → q ≡ x.version → t ≡ x.resource → (IsTrue b ↔ HasLent (λ s. s.field ≡ id) o) → IsTrue b ↔ Any (λ s. IsOfVersion (subject x) s × (s.field ≡ id)) ys
 spelling_in xs ys m o b p q t x id listing same is at_g at_v at_r test =
     let P : Spell → Type 0 = λ s. s.field ≡ id in
-    let Q : Spell → Type 0 = λ s. IsOfVersion x s × (s.field ≡ id) in
+    let Q : Spell → Type 0 = λ s. IsOfVersion (subject x) s × (s.field ≡ id) in
     let both = any_found P Q version_of_spell xs m o p q t listing is (λ (s : Spell). (
       λ (h : Q s). (same_parts s.group s.version s.resource p q t (sym h.0.group ∙ sym at_g) (sym h.0.version ∙ sym at_v) (sym h.0.resource ∙ sym at_r), h.1),
       λ h. let parts = parts_same s.group s.version s.resource p q t h.0 in (record { group = sym at_g ∙ sym parts.0; version = sym at_v ∙ sym parts.1; resource = sym at_r ∙ sym parts.2 }, h.1),
     )) in
     subst (λ (l : List Spell). IsTrue b ↔ Any Q l) same (λ t. both.0 (test.0 t), λ any. test.1 (both.1 any))
 
-pub introduced_for : (xs ys : List ApiEntry) (m : Listed ApiEntry) (o : Option (Bor (Vec (Bor ApiEntry)))) (b : Bool) (p q t : List ℕ) (s : Spell) (since : ℕ) → IsListing version_of_api xs m → xs ≡ ys → lent_in o ≡ listed_at m p q t → p ≡ s.group → q ≡ s.version → t ≡ s.resource → (IsTrue b ↔ HasLent (λ x. IsIntroduction x.change × (s.since ≡ max since x.since)) o) → IsTrue b ↔ Any (λ x. IsOfVersion x s × IsIntroduction x.change × (s.since ≡ max since x.since)) ys
+pub introduced_for : (xs ys : List ApiEntry) (m : Listed ApiEntry) (o : Option (Bor (Vec (Bor ApiEntry)))) (b : Bool) (p q t : List ℕ) (s : Spell) (since : ℕ) → IsListing version_of_api xs m → xs ≡ ys → lent_in o ≡ listed_at m p q t → p ≡ s.group → q ≡ s.version → t ≡ s.resource → (IsTrue b ↔ HasLent (λ x. IsIntroduction x.change × (s.since ≡ max since x.since)) o) → IsTrue b ↔ Any (λ x. IsOfVersion (subject x) s × IsIntroduction x.change × (s.since ≡ max since x.since)) ys
 introduced_for xs ys m o b p q t s since listing same is at_g at_v at_r test =
     let P : ApiEntry → Type 0 = λ x. IsIntroduction x.change × (s.since ≡ max since x.since) in
-    let Q : ApiEntry → Type 0 = λ x. IsOfVersion x s × IsIntroduction x.change × (s.since ≡ max since x.since) in
+    let Q : ApiEntry → Type 0 = λ x. IsOfVersion (subject x) s × IsIntroduction x.change × (s.since ≡ max since x.since) in
     let both = any_found P Q version_of_api xs m o p q t listing is (λ (x : ApiEntry). (
       λ (h : Q x). (same_parts x.group x.version x.resource p q t (h.0.group ∙ sym at_g) (h.0.version ∙ sym at_v) (h.0.resource ∙ sym at_r), (h.1, h.2)),
       λ h. let parts = parts_same x.group x.version x.resource p q t h.0 in (record { group = parts.0 ∙ at_g; version = parts.1 ∙ at_v; resource = parts.2 ∙ at_r }, h.1.0, h.1.1),
     )) in
     subst (λ (l : List ApiEntry). IsTrue b ↔ Any Q l) same (λ t. both.0 (test.0 t), λ any. test.1 (both.1 any))
 
-pub spelled_throughout : (xs : List ApiEntry) (h : Lists) (m : Listed ApiEntry) (o : Option (Bor (Vec (Bor ApiEntry)))) (b : Bool) (p q : List ℕ) (f : Field) → IsListing resource_of_api xs m → xs ≡ h.apis → lent_in o ≡ listed_at m p q [] → p ≡ f.group → q ≡ f.resource → (IsTrue b ↔ EachLent (IsSpelledIn h f) o) → IsTrue b ↔ All (λ x. IsPair h.apis f x → Any (IsSpelling f x) h.spells) h.apis
+pub spelled_throughout : (xs : List ApiEntry) (h : Lists) (m : Listed ApiEntry) (o : Option (Bor (Vec (Bor ApiEntry)))) (b : Bool) (p q : List ℕ) (f : Field) → IsListing resource_of_api xs m → xs ≡ h.apis → lent_in o ≡ listed_at m p q [] → p ≡ f.group → q ≡ f.resource → (IsTrue b ↔ EachLent (IsSpelledIn h f) o) → IsTrue b ↔ All (λ x. IsPair h.apis f x → Any (IsSpelling f (subject x)) h.spells) h.apis
 spelled_throughout xs h m o b p q f listing same is at_g at_r test =
-    let Q : ApiEntry → Type 0 = λ x. IsPair h.apis f x → Any (IsSpelling f x) h.spells in
+    let Q : ApiEntry → Type 0 = λ x. IsPair h.apis f x → Any (IsSpelling f (subject x)) h.spells in
     let both = all_found (IsSpelledIn h f) Q resource_of_api xs m o p q [] listing is (λ (x : ApiEntry). (
       λ (k : Q x) t i kept.
           let parts = parts_same x.group x.resource [] p q [] t in
           let pair : IsPair h.apis f x = record { version = record { of_group = parts.0 ∙ at_g; of_resource = parts.1 ∙ at_r; introduces = i }; kept = kept } in
-          Any-weaker (IsSpelling f x) (λ s. IsOfVersion x s × (s.field ≡ f.id)) h.spells (λ s (w : IsSpelling f x s). (w.1, sym w.0.id)) (k pair),
+          Any-weaker (IsSpelling f (subject x)) (λ s. IsOfVersion (subject x) s × (s.field ≡ f.id)) h.spells (λ s (w : IsSpelling f (subject x) s). (w.1, sym w.0.id)) (k pair),
       λ k (pair : IsPair h.apis f x).
           let v = pair.version in
-          Any-weaker (λ s. IsOfVersion x s × (s.field ≡ f.id)) (IsSpelling f x) h.spells (λ s w. (record { group = sym v.of_group ∙ w.0.group; resource = sym v.of_resource ∙ w.0.resource; id = sym w.1 }, w.0))
+          Any-weaker (λ s. IsOfVersion (subject x) s × (s.field ≡ f.id)) (IsSpelling f (subject x)) h.spells (λ s w. (record { group = sym v.of_group ∙ w.0.group; resource = sym v.of_resource ∙ w.0.resource; id = sym w.1 }, w.0))
           (k (same_parts x.group x.resource [] p q [] (v.of_group ∙ sym at_g) (v.of_resource ∙ sym at_r) refl) v.introduces pair.kept),
     )) in
     let every = subst (λ (l : List ApiEntry). EachLent (IsSpelledIn h f) o ↔ All Q l) same both in
     (λ t. every.0 (test.0 t), λ all. test.1 (every.1 all))
 
-named_same : (x : ApiEntry) (s : Spell) → IsOfVersion x s → subject x ≡ name_of s.group s.version s.resource
+named_same : (x : ApiEntry) (s : Spell) → IsOfVersion (subject x) s → subject x ≡ name_of s.group s.version s.resource
 named_same x s v = λ i. name_of (v.group i) (v.version i) (v.resource i)
 
 -- a spelling pairs with a field exactly where it spells a pair of it
 pairs_of : (h : Lists) (f : Field) (s : Spell) → IsOfField f s → PairsWith h f s → Any (SpellsPair h.apis f s) h.apis
-pairs_of h f s of_field with = Any-weaker (λ x. IsOfVersion x s × IsIntroduction x.change × (s.since ≡ max f.since x.since)) (SpellsPair h.apis f s) h.apis (λ x w. record {
+pairs_of h f s of_field with = Any-weaker (λ x. IsOfVersion (subject x) s × IsIntroduction x.change × (s.since ≡ max f.since x.since)) (SpellsPair h.apis f s) h.apis (λ x w. record {
   pair = record {
     version = record { of_group = w.0.group ∙ sym of_field.group; of_resource = w.0.resource ∙ sym of_field.resource; introduces = w.1 };
     kept = λ (k : IsForgotten h.apis (subject x) f.since). with.kept (subst (λ (n : GroupVersionResource). IsForgotten h.apis n f.since) (named_same x s w.0) k);
@@ -114,7 +114,7 @@ pairs_with h f s any =
     let w : SpellsPair h.apis f s any.1 = any.4 in
     record {
       kept = λ (k : IsForgotten h.apis (name_of s.group s.version s.resource) f.since). w.pair.kept (subst (λ (n : GroupVersionResource). IsForgotten h.apis n f.since) (sym (named_same any.1 s w.spelling)) k);
-      introduced = Any-weaker (SpellsPair h.apis f s) (λ x. IsOfVersion x s × IsIntroduction x.change × (s.since ≡ max f.since x.since)) h.apis (λ x (k : SpellsPair h.apis f s x). (k.spelling, k.pair.version.introduces, k.dated)) any;
+      introduced = Any-weaker (SpellsPair h.apis f s) (λ x. IsOfVersion (subject x) s × IsIntroduction x.change × (s.since ≡ max f.since x.since)) h.apis (λ x (k : SpellsPair h.apis f s x). (k.spelling, k.pair.version.introduces, k.dated)) any;
     }
 
 pub paired_with : (xs : List Field) (h : Lists) (m : Listed Field) (o : Option (Bor (Vec (Bor Field)))) (b : Bool) (p q : List ℕ) (s : Spell) → IsListing resource_of_field xs m → xs ≡ h.fields → lent_in o ≡ listed_at m p q [] → p ≡ s.group → q ≡ s.resource → (IsTrue b ↔ HasLent (λ f. (f.id ≡ s.field) × PairsWith h f s) o) → IsTrue b ↔ Any (λ f. IsOfField f s × Any (SpellsPair h.apis f s) h.apis) h.fields

@@ -3,3 +3,5 @@ pub mod ListingLemmas
 pub mod IndexLemmas
 pub mod TestLemmas
 pub mod FaultLemmas
+pub mod LawLemmas
+pub mod JoinLemmas

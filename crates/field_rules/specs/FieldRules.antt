@@ -4,6 +4,7 @@ use Rattle.std.specs.Str.{bytes_eq}
 use Rattle.fields.specs.declared.field.Field.{Field}
 use Rattle.fields.specs.declared.field.Spell.{Spell}
 use Rattle.gate_spec.specs.declared.entry.GateEntry.{GateEntry}
+use Rattle.lifecycle.specs.Entry.{subject}
 use Rattle.lifecycle.specs.declared.entry.ApiEntry.{ApiEntry}
 use Rattle.field_rules.specs.Pairs.{IntroducesVersionOf, IsPair, IsSpelling}
 
@@ -42,4 +43,4 @@ HasKnownGate first gates earlier x = IfSome x.gate (λ gate. Any (λ y. (y.name 
 
 -- HR14, of a field: each pair that it is of has a spelling
 abbrev pub IsSpelledThroughout : List ApiEntry → List Spell → List Field → Field → Type 0
-IsSpelledThroughout apis spells earlier x = All (λ a. IsPair apis x a → Any (IsSpelling x a) spells) apis
+IsSpelledThroughout apis spells earlier x = All (λ a. IsPair apis x a → Any (IsSpelling x (subject a)) spells) apis

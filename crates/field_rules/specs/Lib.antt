@@ -9,3 +9,4 @@ pub mod Keys
 pub mod IndexFields
 pub mod Answers
 pub mod Fault
+pub mod Laws

@@ -2,7 +2,7 @@
 use Rattle.std.specs.Prelude.{ℕ, ◌≡◌, max, List, Some, Any, slice_get}
 use Rattle.fields.specs.declared.field.Field.{Field}
 use Rattle.fields.specs.declared.field.Spell.{Spell}
-use Rattle.lifecycle.specs.Entry.{subject, IsIntroduction}
+use Rattle.lifecycle.specs.Entry.{GroupVersionResource, subject, IsIntroduction}
 use Rattle.lifecycle.specs.declared.entry.ApiEntry.{ApiEntry}
 use Rattle.schemas.specs.ApiRules.{IsForgotten}
 
@@ -23,15 +23,15 @@ pub record IsOfField (f : Field) (s : Spell) : Type 0 where
   pub resource : f.resource ≡ s.resource
   pub id : f.id ≡ s.field
 
--- s is for the version that x introduces
-pub record IsOfVersion (x : ApiEntry) (s : Spell) : Type 0 where
-  pub group : x.group ≡ s.group
-  pub version : x.version ≡ s.version
-  pub resource : x.resource ≡ s.resource
+-- s is for this version
+pub record IsOfVersion (name : GroupVersionResource) (s : Spell) : Type 0 where
+  pub group : name.group ≡ s.group
+  pub version : name.version ≡ s.version
+  pub resource : name.resource ≡ s.resource
 
--- s spells the field in the version that x introduces
-abbrev pub IsSpelling : Field → ApiEntry → Spell → Type 0
-IsSpelling f x s = IsOfField f s × IsOfVersion x s
+-- s spells the field in this version
+abbrev pub IsSpelling : Field → GroupVersionResource → Spell → Type 0
+IsSpelling f name s = IsOfField f s × IsOfVersion name s
 
 -- two spellings are for one version
 pub record AreOfOneVersion (s t : Spell) : Type 0 where
@@ -43,17 +43,17 @@ pub record AreOfOneVersion (s t : Spell) : Type 0 where
 abbrev pub AreOfOnePair : Spell → Spell → Type 0
 AreOfOnePair s t = AreOfOneVersion s t × (s.field ≡ t.field)
 
--- a pair has exactly one spelling
-pub record HasOneSpelling (spells : List Spell) (f : Field) (x : ApiEntry) : Type 0 where
-  pub some : Any (IsSpelling f x) spells
-  pub one : (i j : ℕ) (s t : Spell) → slice_get spells i ≡ Some s → slice_get spells j ≡ Some t → IsSpelling f x s → IsSpelling f x t → i ≡ j
+-- the field has exactly one spelling in the version
+pub record HasOneSpelling (spells : List Spell) (f : Field) (name : GroupVersionResource) : Type 0 where
+  pub some : Any (IsSpelling f name) spells
+  pub one : (i j : ℕ) (s t : Spell) → slice_get spells i ≡ Some s → slice_get spells j ≡ Some t → IsSpelling f name s → IsSpelling f name t → i ≡ j
 
 -- each pair has exactly one spelling
 abbrev pub EachPairHasOneSpelling : List ApiEntry → List Field → List Spell → Type 0
-EachPairHasOneSpelling apis fields spells = (i j : ℕ) (f : Field) (x : ApiEntry) → slice_get fields i ≡ Some f → slice_get apis j ≡ Some x → IsPair apis f x → HasOneSpelling spells f x
+EachPairHasOneSpelling apis fields spells = (i j : ℕ) (f : Field) (x : ApiEntry) → slice_get fields i ≡ Some f → slice_get apis j ≡ Some x → IsPair apis f x → HasOneSpelling spells f (subject x)
 
--- the spelling is one of a pair, from the release on at which both the field and the version are there
+-- s is the spelling of the field's pair with the version that x introduces, dated when both are there
 pub record SpellsPair (apis : List ApiEntry) (f : Field) (s : Spell) (x : ApiEntry) : Type 0 where
   pub pair : IsPair apis f x
-  pub spelling : IsOfVersion x s
+  pub spelling : IsOfVersion (subject x) s
   pub dated : s.since ≡ max f.since x.since

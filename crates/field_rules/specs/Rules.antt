@@ -55,6 +55,11 @@ checks =
     ∷ spell_check 16 (λ h. FitsField h.fields)
     ∷ []
 
+-- no entry breaks any of the rules
+abbrev pub IsUnbroken : Lists → List Check → Type 0
+IsUnbroken h [] = Unit {0}
+IsUnbroken h (check ∷ more) = ((number : ℕ) → ¬ check.IsBrokenAt h number) × IsUnbroken h more
+
 -- of the tests, the first that finds a fault finds it in this rule, first at the entry with this number
 abbrev pub IsFirstFault : Lists → List Check → ℕ → Array → ℕ → Type 0
 IsFirstFault h [] rule array number = ⊥

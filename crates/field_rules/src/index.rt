@@ -1,6 +1,6 @@
 //! The entries of a history, listed so that those of one name are found without a pass over all.
 ghost use Rattle.std.specs.Prelude.{◌≡◌, ◌≤◌, ◌↔◌, IsTrue, IfOk, All, Any, max};
-ghost use Rattle.lifecycle.specs.Entry.{IsIntroduction};
+ghost use Rattle.lifecycle.specs.Entry.{subject, IsIntroduction};
 ghost use Rattle.schemas.specs.ApiRules.{name_of, IsForgotten};
 ghost use Rattle.field_rules.specs.Answers.{IsSpelledIn, PairsWith};
 ghost use Rattle.field_rules.specs.Listing.{HasLent, EachLent};
@@ -139,7 +139,7 @@ impl<'a> Index<'a> {
     }
 
     fn has_spelling_in(&self, field: &'a Field, entry: &'a ApiEntry) -> bool
-        ensures { IsTrue result ↔ Any (λ s. IsOfVersion entry.now s × (s.field ≡ field.now.id)) self.now.spells }
+        ensures { IsTrue result ↔ Any (λ s. IsOfVersion (subject entry.now) s × (s.field ≡ field.now.id)) self.now.spells }
     {
         let group = entry.group.bytes();
         let version = entry.version.bytes();
@@ -179,7 +179,7 @@ impl<'a> Index<'a> {
 
     /// Whether each pair of the field with a version has a spelling.
     pub fn is_spelled_throughout(&self, field: &'a Field) -> bool
-        ensures { IsTrue result ↔ All (λ x. IsPair self.now.apis field.now x → Any (IsSpelling field.now x) self.now.spells) self.now.apis }
+        ensures { IsTrue result ↔ All (λ x. IsPair self.now.apis field.now x → Any (IsSpelling field.now (subject x)) self.now.spells) self.now.apis }
     {
         let group = field.group.bytes();
         let resource = field.resource.bytes();
@@ -187,7 +187,7 @@ impl<'a> Index<'a> {
     }
 
     fn is_introduced_for(&self, field: &Field, spell: &'a Spell) -> bool
-        ensures { IsTrue result ↔ Any (λ x. IsOfVersion x spell.now × IsIntroduction x.change × (spell.now.since ≡ max field.now.since x.since)) self.now.apis }
+        ensures { IsTrue result ↔ Any (λ x. IsOfVersion (subject x) spell.now × IsIntroduction x.change × (spell.now.since ≡ max field.now.since x.since)) self.now.apis }
     {
         let group = spell.group.bytes();
         let version = spell.version.bytes();

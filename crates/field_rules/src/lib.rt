@@ -6,6 +6,7 @@ mod entries;
 mod field_tests;
 mod index;
 mod keys;
+mod laws;
 mod listing;
 mod paths;
 mod spell_tests;
@@ -14,3 +15,7 @@ mod tests;
 mod types;
 
 pub use broken::{Broken, first_broken};
+pub use laws::{
+    decodable_version_is_spelled, lawful_is_unbroken, live_version_stays_decodable,
+    pairs_have_one_spelling, paths_are_apart,
+};
