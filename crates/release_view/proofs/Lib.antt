@@ -1,0 +1,6 @@
+pub mod ListLemmas
+pub mod KnownLemmas
+pub mod GatherLemmas
+pub mod LookupLemmas
+pub mod LiveLemmas
+pub mod ViewLemmas

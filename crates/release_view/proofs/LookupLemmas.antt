@@ -1,0 +1,192 @@
+-- What is looked up among known versions.
+use Rattle.std.proofs.Common.{◌≡◌, ◌↔◌, ℕ, ◌&&◌, Bool, true, false, IsTrue, Option, Some, None, List, [], ◌∷◌, get_or, Less, Equal, Greater, Ordering, All, Contains, refl, sym, ◌∙◌, ap, subst, cond}
+use Rattle.std.specs.Prelude.{find, IsSome, option_map, option_and_then}
+use Rattle.std.specs.Option.{is_some}
+use Rattle.std.specs.Str.{bytes_eq}
+use Rattle.std.specs.Cmp.Lexicographic.{slice_cmp}
+use Rattle.std.specs.Ordering.{nat_cmp, ordering_then}
+use Rattle.std.proofs.lemmas.Bool.{and_parts, and_from, both_ways, false≢true, false_from_ne_true}
+use Rattle.std.proofs.lemmas.Cmp.{tied_itself, nat_list_cmp_total}
+use Rattle.std.proofs.lemmas.List.Elements.{All-cons, All-from_recursion}
+use Rattle.std.proofs.lemmas.Map.Keys.{sorted_head, sorted_tail}
+use Rattle.std.proofs.lemmas.Slice.Eq.{bytes_eq-Decides}
+use Rattle.lifecycle.specs.Entry.{GroupVersionResource}
+use Rattle.lifecycle.specs.Stability.{by_stability}
+use Rattle.lifecycle.specs.Tables.{decodable, live, warning}
+use Rattle.lifecycle.specs.declared.entry.ApiEntry.{ApiEntry}
+use Rattle.release_view.specs.Known.{name_of, deprecation, IsKnown, AreInPlace, AreKnown, Has, by_place}
+use Rattle.release_view.specs.Order.{by_stability_total}
+use Rattle.release_view.specs.Served.{shown, served_as, served_of}
+use Rattle.release_view.specs.Views.{Viewed, has_name, is_shown_as, version_in, table_in, served_in, warning_in, is_live_of, has_live, IsBest}
+use Rattle.release_view.specs.Laws.{TellsTables, IsKindLive}
+use Rattle.release_view.specs.declared.known.KnownVersion.{KnownVersion}
+use Rattle.release_view.specs.declared.served.ServedVersion.{ServedVersion}
+use Rattle.release_view.proofs.ListLemmas.{found, finds, witness, some_from, some-find, given_of, gives}
+
+same_bytes : (a b : List ℕ) → bytes_eq a b ≡ true → a ≡ b
+same_bytes a b h = (bytes_eq-Decides a b).0 h
+
+bytes_same : (a b : List ℕ) → a ≡ b → bytes_eq a b ≡ true
+bytes_same a b h = (bytes_eq-Decides a b).1 h
+
+module _ (name : GroupVersionResource) (group version resource : List ℕ) where
+  abbrev given : GroupVersionResource
+  given = record { group = group; version = version; resource = resource }
+
+  abbrev agrees : Bool
+  agrees = bytes_eq group name.group && bytes_eq version name.version && bytes_eq resource name.resource
+
+  named_so : agrees ≡ true → given ≡ name
+  named_so h =
+      let (front, r) = and_parts (bytes_eq group name.group && bytes_eq version name.version) (bytes_eq resource name.resource) h in
+      let (g, v) = and_parts (bytes_eq group name.group) (bytes_eq version name.version) front in
+      let p = same_bytes group name.group g in
+      let q = same_bytes version name.version v in
+      let s = same_bytes resource name.resource r in
+      λ i. record { group = p i; version = q i; resource = s i }
+
+  so_named : given ≡ name → agrees ≡ true
+  so_named h =
+      and_from (bytes_eq group name.group && bytes_eq version name.version) (bytes_eq resource name.resource)
+      (and_from (bytes_eq group name.group) (bytes_eq version name.version) (bytes_same group name.group (ap (λ n. n.group) h)) (bytes_same version name.version (ap (λ n. n.version) h)))
+      (bytes_same resource name.resource (ap (λ n. n.resource) h))
+
+named_of : (name : GroupVersionResource) (v : KnownVersion) → has_name name v ≡ true → name_of v ≡ name
+named_of name v h = named_so name v.table.group v.table.version v.table.resource h
+
+of_named : (name : GroupVersionResource) (v : KnownVersion) → name_of v ≡ name → has_name name v ≡ true
+of_named name v h = so_named name v.table.group v.table.version v.table.resource h
+
+-- ---- by name
+
+module _ (versions : List KnownVersion) (name : GroupVersionResource) where
+  pub version_there : Has versions name → (v : KnownVersion) × (version_in versions name ≡ Some v)
+  version_there h = let (v, there, named) = witness (λ w. name_of w ≡ name) versions h in some_from (version_in versions name) (finds (has_name name) versions v there (of_named name v named))
+
+  pub there_version : (v : KnownVersion) → version_in versions name ≡ Some v → Contains versions v × (name_of v ≡ name)
+  there_version v h = let r = found (has_name name) versions v h in (r.0, named_of name v r.1)
+
+some_option : {X Y : Type 0} (f : X → Y) (o : Option X) → IsSome (option_map f o) → (x : X) × (o ≡ Some x)
+some_option f None h = absurd (false≢true h)
+some_option f (Some x) h = (x, refl)
+
+option_some : {X Y : Type 0} (f : X → Y) (o : Option X) (x : X) → o ≡ Some x → IsSome (option_map f o)
+option_some f o x e = ap (λ o. is_some (option_map f o)) e
+
+-- ---- served versions
+
+served_one : (v : KnownVersion) (b : Bool) (s : ServedVersion) → v.served ≡ b → cond b (Some (shown v)) None ≡ Some s → IsTrue v.served × (shown v ≡ s)
+served_one v true s e h = (e, (let f : Option ServedVersion → ServedVersion = λ o. elim o [ None ↦ s | Some z ↦ z ] in ap f h))
+served_one v false s e h = absurd (let clash : None ≡ Some s = h in cc)
+
+module _ (tables : List ApiEntry) (on_names : List GroupVersionResource) (versions : List KnownVersion) (known : AreKnown tables on_names versions) where
+  is_known : (v : KnownVersion) → Contains versions v → IsKnown tables on_names v
+  is_known v there = (known.exact v).0 there
+
+  table_tells : (name : GroupVersionResource) → IsSome (table_in versions name) ↔ (decodable tables name ≡ true)
+  table_tells name = (
+    λ h.
+        let (v, e) = some_option (λ (v : KnownVersion). v.table) (version_in versions name) h in
+        let (there, named) = there_version versions name v e in
+        subst (λ n. decodable tables n ≡ true) named (is_known v there).decodes,
+    λ h. let (v, e) = version_there versions name (known.each_decodable name h) in option_some (λ (v : KnownVersion). v.table) (version_in versions name) v e,
+  )
+
+  served_tells : ((name : GroupVersionResource) → Contains on_names name → live tables name ≡ true) → (name : GroupVersionResource) → IsSome (served_in versions name) ↔ Contains on_names name
+  served_tells lives name = (
+    λ h.
+        let (s, e) = some_from (served_in versions name) h in
+        let (there, passes) = found (is_shown_as name) (served_of versions) s e in
+        let (v, among, as_shown) = given_of served_as versions s there in
+        let (serves, is_shown) = served_one v v.served s refl as_shown in
+        let named : name_of v ≡ name = (λ i. record { group = (is_shown i).group; version = (is_shown i).version; resource = (is_shown i).resource }) ∙ named_so name s.group s.version s.resource passes in
+        subst (Contains on_names) named ((is_known v among).is_served.0 serves),
+    λ h.
+        let (v, e) = version_there versions name (known.each_live name (lives name h)) in
+        let (among, named) = there_version versions name v e in
+        let serves : v.served ≡ true = (is_known v among).is_served.1 (subst (Contains on_names) (sym named) h) in
+        let listed = gives served_as versions (shown v) v among (ap (λ b. cond b (Some (shown v)) None) serves) in
+        finds (is_shown_as name) (served_of versions) (shown v) listed (so_named name v.table.group v.table.version v.table.resource named),
+  )
+
+  warned_by : (name : GroupVersionResource) (o : Option KnownVersion) → version_in versions name ≡ o → option_and_then (λ v. option_map deprecation v.warning) o ≡ warning tables name
+  warned_by name (Some v) e = let (among, named) = there_version versions name v e in (is_known v among).warned ∙ ap (warning tables) named
+  warned_by name None e =
+      let not_live : live tables name ≡ false = false_from_ne_true (live tables name) (λ h. let (v, there) = version_there versions name (known.each_live name h) in let clash : None ≡ Some v = sym e ∙ there in cc) in
+      rw not_live refl
+
+  warning_tells : (name : GroupVersionResource) → warning_in versions name ≡ warning tables name
+  warning_tells name = warned_by name (version_in versions name) refl
+
+  kind_tells : (group resource : List ℕ) → (has_live versions group resource ≡ true) ↔ IsKindLive tables group resource
+  kind_tells group resource = (
+    λ h.
+        let (v, e) = some_from (find (is_live_of group resource) versions) (some-find (is_live_of group resource) versions ∙ h) in
+        let (among, passes) = found (is_live_of group resource) versions v e in
+        let (front, r) = and_parts (v.live && bytes_eq v.table.group group) (bytes_eq v.table.resource resource) passes in
+        let (is_live, g) = and_parts v.live (bytes_eq v.table.group group) front in
+        let p = same_bytes v.table.group group g in
+        let q = same_bytes v.table.resource resource r in
+        let named : name_of v ≡ record { group = group; version = v.table.version; resource = resource } = λ i. record { group = p i; version = v.table.version; resource = q i } in
+        (v.table.version, ap (live tables) (sym named) ∙ sym (is_known v among).is_live ∙ is_live),
+    λ h.
+        let name : GroupVersionResource = record { group = group; version = h.0; resource = resource } in
+        let (v, e) = version_there versions name (known.each_live name h.1) in
+        let (among, named) = there_version versions name v e in
+        let is_live : v.live ≡ true = (is_known v among).is_live ∙ ap (live tables) named ∙ h.1 in
+        let passes : is_live_of group resource v ≡ true =
+        and_from (v.live && bytes_eq v.table.group group) (bytes_eq v.table.resource resource)
+        (and_from v.live (bytes_eq v.table.group group) is_live (bytes_same v.table.group group (ap (λ n. n.group) named)))
+        (bytes_same v.table.resource resource (ap (λ n. n.resource) named)) in
+        sym (some-find (is_live_of group resource) versions) ∙ finds (is_live_of group resource) versions v among passes,
+  )
+
+pub tells : (tables : List ApiEntry) (on_names : List GroupVersionResource) (view : Viewed) → AreKnown tables on_names view.versions → ((name : GroupVersionResource) → Contains on_names name → live tables name ≡ true) → TellsTables tables on_names view
+tells tables on_names view known lives = record {
+  tables = table_tells tables on_names view.versions known;
+  served = served_tells tables on_names view.versions known lives;
+  warned = warning_tells tables on_names view.versions known;
+  kinds = kind_tells tables on_names view.versions known;
+}
+
+-- ---- the most stable
+
+less_words : (o p q : Ordering) → o ≡ Equal → ordering_then (ordering_then o p) q ≡ Less → p ≡ Greater → ⊥
+less_words Equal Less q tied less e = let clash : Less ≡ Greater = e in cc
+less_words Equal Equal q tied less e = let clash : Equal ≡ Greater = e in cc
+less_words Equal Greater q tied less e = let clash : Greater ≡ Less = less in cc
+less_words Less p q tied less e = let clash : Less ≡ Equal = tied in cc
+less_words Greater p q tied less e = let clash : Greater ≡ Equal = tied in cc
+
+module _ (group resource : List ℕ) where
+  group_of : (v : KnownVersion) → is_live_of group resource v ≡ true → v.table.group ≡ group
+  group_of v h =
+      let (front, r) = and_parts (v.live && bytes_eq v.table.group group) (bytes_eq v.table.resource resource) h in
+      let (is_live, g) = and_parts v.live (bytes_eq v.table.group group) front in
+      same_bytes v.table.group group g
+
+  behind : (v w : KnownVersion) → is_live_of group resource v ≡ true → by_place v w ≡ Less → is_live_of group resource w ≡ true → by_stability v.word w.word ≡ Greater → ⊥
+  behind v w p less q worse =
+      let tied : slice_cmp nat_cmp v.table.group w.table.group ≡ Equal = ap (slice_cmp nat_cmp v.table.group) (group_of w q ∙ sym (group_of v p)) ∙ tied_itself nat_list_cmp_total v.table.group in
+      less_words _ _ _ tied less worse
+
+  first_best_at : (x : KnownVersion) (xs : List KnownVersion) (v : KnownVersion) (b : Bool) → is_live_of group resource x ≡ b → AreInPlace (x ∷ xs) → cond b (Some x) (find (is_live_of group resource) xs) ≡ Some v
+      → (find (is_live_of group resource) xs ≡ Some v → All (λ w. is_live_of group resource w ≡ true → by_stability v.word w.word ≡ Greater → ⊥) xs) → All (λ w. is_live_of group resource w ≡ true → by_stability v.word w.word ≡ Greater → ⊥) (x ∷ xs)
+  first_best_at x xs v true e rise h later =
+      let same : x ≡ v = (let f : Option KnownVersion → KnownVersion = λ o. elim o [ None ↦ x | Some z ↦ z ] in ap f h) in
+      let passes : is_live_of group resource v ≡ true = ap (is_live_of group resource) (sym same) ∙ e in
+      All-cons (λ w. is_live_of group resource w ≡ true → by_stability v.word w.word ≡ Greater → ⊥) x xs
+      (λ q worse. let tied : by_stability v.word x.word ≡ Equal = ap (λ (w : KnownVersion). by_stability v.word w.word) same ∙ tied_itself by_stability_total v.word in let clash : Equal ≡ Greater = sym tied ∙ worse in cc)
+      (λ k d below. λ q worse.
+      let w : KnownVersion = get_or xs k d in
+      behind v w passes (ap (λ z. by_place z w) (sym same) ∙ All-from_recursion (λ y. by_place x y ≡ Less) xs (sorted_head by_place x xs rise) k d below) q worse)
+  first_best_at x xs v false e rise h later =
+      All-cons (λ w. is_live_of group resource w ≡ true → by_stability v.word w.word ≡ Greater → ⊥) x xs (λ q worse. both_ways (is_live_of group resource x) e q) (later h)
+
+  first_best : (versions : List KnownVersion) (v : KnownVersion) → AreInPlace versions → find (is_live_of group resource) versions ≡ Some v → All (λ w. is_live_of group resource w ≡ true → by_stability v.word w.word ≡ Greater → ⊥) versions
+  first_best [] v rise h = absurd (let clash : None ≡ Some v = h in cc)
+  first_best (x ∷ xs) v rise h = first_best_at x xs v (is_live_of group resource x) refl rise h (λ later. first_best xs v (sorted_tail by_place x xs rise) later)
+
+  -- the first of the live versions is the most stable
+  pub best_first : (versions : List KnownVersion) (v : KnownVersion) → AreInPlace versions → find (is_live_of group resource) versions ≡ Some v → IsBest versions group resource v
+  best_first versions v rise h = let r = found (is_live_of group resource) versions v h in record { among = r.0; is_live = r.1; best = first_best versions v rise h }

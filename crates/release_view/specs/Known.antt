@@ -1,0 +1,64 @@
+-- What the tables of a release say of a version of a resource, as a view holds it.
+use Rattle.std.specs.Prelude.{◌≡◌, ◌↔◌, ℕ, List, [], Bool, true, IsTrue, Any, Contains, Option, Some, None, option_map, option_and_then}
+use Rattle.std.specs.declared.cmp.Ordering.{Ordering}
+use Rattle.std.specs.Ordering.{nat_cmp, on, then_cmp}
+use Rattle.std.specs.Cmp.Lexicographic.{slice_cmp}
+use Rattle.std.specs.List.Sorted.{IsStrictlySortedBy}
+use Rattle.lifecycle.specs.Entry.{GroupVersionResource}
+use Rattle.lifecycle.specs.Stability.{by_stability}
+use Rattle.lifecycle.specs.Tables.{Deprecation, is_introduction, first_change, live, decodable, warning}
+use Rattle.lifecycle.specs.Version.{IsWord, word_text}
+use Rattle.lifecycle.specs.declared.entry.ApiEntry.{ApiEntry}
+use Rattle.lifecycle.specs.declared.entry.ApiChange.{ApiChange}
+use Rattle.lifecycle.specs.declared.entry.ApiChange.TheVariants.{Introduced}
+use Rattle.release_view.specs.declared.known.KnownVersion.{KnownVersion}
+use Rattle.release_view.specs.declared.known.Planned.{Planned}
+
+abbrev pub name_of : KnownVersion → GroupVersionResource
+name_of v = record { group = v.table.group; version = v.table.version; resource = v.table.resource }
+
+-- what an introduction says of the resource: its kind, its singular and whether it is namespaced
+pub record Naming : Type 0 where
+  pub kind : List ℕ
+  pub singular : List ℕ
+  pub namespaced : Bool
+
+abbrev pub naming_of : ApiChange → Option Naming
+naming_of (Introduced kind singular namespaced enabled) = Some (record { kind = kind; singular = singular; namespaced = namespaced })
+naming_of _ = None
+
+-- the naming of a version, by its first introduction in the tables
+abbrev pub naming : List ApiEntry → GroupVersionResource → Option Naming
+naming tables name = option_and_then (λ x. naming_of x.change) (first_change is_introduction tables name)
+
+abbrev pub deprecation : Planned → Deprecation
+deprecation p = record { since = p.since; removal = p.removal; replacement = p.replacement }
+
+-- the version is read at the release, and this is what its tables and the served names say of it
+pub record IsKnown (tables : List ApiEntry) (on_names : List GroupVersionResource) (v : KnownVersion) : Type 0 where
+  pub decodes : decodable tables (name_of v) ≡ true
+  pub named_as : naming tables (name_of v) ≡ Some (record { kind = v.table.kind; singular = v.singular; namespaced = v.namespaced })
+  pub lawful : IsWord v.word
+  pub spelled : v.table.version ≡ word_text v.word
+  pub is_live : v.live ≡ live tables (name_of v)
+  pub is_served : IsTrue v.served ↔ Contains on_names (name_of v)
+  pub warned : option_map deprecation v.warning ≡ warning tables (name_of v)
+  pub rows : v.table.rows ≡ []
+
+-- by group in order of bytes, then the most stable first, then by resource in order of bytes
+abbrev pub by_place : KnownVersion → KnownVersion → Ordering
+by_place = then_cmp (then_cmp (on (λ v. v.table.group) (slice_cmp nat_cmp)) (on (λ v. v.word) by_stability)) (on (λ v. v.table.resource) (slice_cmp nat_cmp))
+
+abbrev pub AreInPlace : List KnownVersion → Type 0
+AreInPlace versions = IsStrictlySortedBy by_place versions
+
+-- some version in the list has this name
+abbrev pub Has : List KnownVersion → GroupVersionResource → Type 0
+Has versions name = Any (λ v. name_of v ≡ name) versions
+
+-- the versions that the tables have, each once, in order
+pub record AreKnown (tables : List ApiEntry) (on_names : List GroupVersionResource) (versions : List KnownVersion) : Type 0 where
+  pub order : AreInPlace versions
+  pub exact : (v : KnownVersion) → Contains versions v ↔ IsKnown tables on_names v
+  pub each_decodable : (name : GroupVersionResource) → decodable tables name ≡ true → Has versions name
+  pub each_live : (name : GroupVersionResource) → live tables name ≡ true → Has versions name

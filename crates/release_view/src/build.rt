@@ -1,0 +1,137 @@
+//! The view of a release, made from a history.
+ghost use Rattle.std.specs.Prelude.{◌≡◌, [], All, IfOk, option_map};
+ghost use Rattle.lifecycle.specs.Entry.{named, subject};
+ghost use Rattle.lifecycle.specs.Tables.{cutoff, warning};
+ghost use Rattle.lifecycle.specs.Version.{IsVersion};
+ghost use Rattle.release_view.specs.Known.{deprecation};
+ghost use Rattle.release_view.specs.Parts.{IsGathered, IsVersionOf};
+ghost use Rattle.release_view.specs.Views.{IsViewable, IsViewOf};
+
+use crate::known::{KnownVersion, Planned};
+use crate::release::View;
+use crate::served::served_versions;
+use basis::Memory;
+use fields::{FieldRows, VersionTable};
+use gate_flags::GateValues;
+use lifecycle::{ApiChange, ApiEntry, ApiName, version_word};
+use minor_version::{Blob, Minor, Text};
+use runtime_config::Enabled;
+use schemas::Accepted;
+use std::alloc::Global;
+use std::collections::BTreeSet;
+use version_index::VersionIndex;
+
+fn planned<'a>(
+    alloc: Global,
+    index: &VersionIndex<'a>,
+    name: ApiName<'a>,
+) -> Result<Option<Planned>, Memory>
+    ensures { IfOk result (λ p. option_map deprecation p ≡ warning index.now (named name.entry)) }
+{
+    let Some(warning) = index.warning(name) else {
+        return Ok(None);
+    };
+    let replacement = Blob::copy(alloc, warning.replacement)?;
+    Ok(Some(Planned {
+        since: warning.since,
+        removal: warning.removal,
+        replacement,
+    }))
+}
+
+fn table(alloc: Global, entry: &ApiEntry, kind: &Text) -> Result<VersionTable, Memory>
+    ensures { IfOk result (λ t. t ≡ record { group = entry.now.group; version = entry.now.version; resource = entry.now.resource; kind = kind.now; rows = [] }) }
+{
+    Ok(VersionTable {
+        group: entry.group.duplicate(alloc)?,
+        version: entry.version.duplicate(alloc)?,
+        resource: entry.resource.duplicate(alloc)?,
+        kind: kind.duplicate(alloc)?,
+        rows: FieldRows::new(),
+    })
+}
+
+/// What the tables and the served names say of the entry's version. None where it isn't read.
+fn known_version<'a>(
+    alloc: Global,
+    index: &VersionIndex<'a>,
+    on: &Enabled,
+    entry: &'a ApiEntry,
+) -> Result<Option<KnownVersion>, Memory>
+    requires { IsVersion entry.now.version }
+    ensures { IfOk result (IsVersionOf index.now on.now (subject entry.now)) }
+{
+    let name = entry.name();
+    if !index.is_decodable(name) {
+        return Ok(None);
+    }
+    let Some(word) = version_word(name.version) else {
+        return Ok(None);
+    };
+    let Some(first) = index.introduction(name) else {
+        return Ok(None);
+    };
+    let ApiChange::Introduced {
+        kind,
+        singular,
+        namespaced,
+        ..
+    } = &first.change
+    else {
+        return Ok(None);
+    };
+    Ok(Some(KnownVersion {
+        table: table(alloc, entry, kind)?,
+        word,
+        singular: singular.duplicate(alloc)?,
+        namespaced: *namespaced,
+        live: index.is_live(name),
+        served: on.serves(name),
+        warning: planned(alloc, index, name)?,
+    }))
+}
+
+/// The versions of which the entries speak and that are read, in order.
+fn gathered<'a>(
+    alloc: Global,
+    entries: &'a [ApiEntry],
+    index: &VersionIndex<'a>,
+    on: &Enabled,
+) -> Result<Vec<KnownVersion>, Memory>
+    requires { All (λ x. IsVersion x.version) entries.now }
+    ensures { IfOk result (λ v. IsGathered index.now on.now entries.now v.items) }
+{
+    let mut versions = BTreeSet::new(alloc);
+    for entry in entries {
+        let version = match known_version(alloc, index, on, entry) {
+            Ok(Some(version)) => version,
+            Ok(None) => continue,
+            Err(Memory) => return Err(Memory),
+        };
+        match versions.insert(version) {
+            Ok(_) => {}
+            Err(_) => return Err(Memory),
+        }
+    }
+    let versions = versions.into_iter().collect(alloc)?;
+    Ok(versions)
+}
+
+/// The view of the release e, with the values of its gates and the versions that it serves.
+pub fn view(
+    alloc: Global,
+    a: &Accepted,
+    e: Minor,
+    gates: GateValues,
+    on: Enabled,
+) -> Result<View, Memory>
+    requires { IsViewable a.now e gates on }
+    ensures { IfOk result (IsViewOf a.now.apis e gates on) }
+{
+    let history = a.history();
+    let entries = history.apis.items();
+    let index = VersionIndex::at(alloc, entries, e)?;
+    let versions = gathered(alloc, entries, &index, &on)?;
+    let served = served_versions(alloc, &versions)?;
+    Ok(View::new(e, gates, versions, served))
+}

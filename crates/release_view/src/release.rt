@@ -1,0 +1,188 @@
+ghost use Rattle.std.specs.Prelude.{◌≡◌, IfSome, find, option_copied, option_map, is_some};
+ghost use Rattle.lifecycle.specs.Entry.{named};
+ghost use Rattle.lifecycle.specs.Warnings.{told};
+ghost use Rattle.release_view.specs.Known.{AreInPlace, deprecation};
+ghost use Rattle.release_view.specs.Served.{served_of};
+ghost use Rattle.release_view.specs.Views.{has_name, is_shown_as, version_in, table_in, served_in, warning_in, is_live_of, has_live, IsBestTable};
+
+use crate::known::{KnownVersion, Planned};
+use crate::served::ServedVersion;
+use fields::VersionTable;
+use gate_flags::GateValues;
+use lifecycle::{ApiName, Warning};
+use minor_version::Minor;
+use std::marker::Model;
+
+/// What a release knows and serves: its tables, with the values of its gates and the versions that are switched on.
+#[derive(Debug, Drop)]
+pub struct View {
+    minor: Minor,
+    gates: GateValues,
+    versions: Vec<KnownVersion>,
+    served: Vec<ServedVersion>,
+}
+
+impl Model for View {
+    ghost use Rattle.release_view.specs.Views.{Viewed};
+    ghost use Rattle.release_view.specs.Fields.{viewed, IsWhole};
+
+    ghost Value = { Viewed };
+
+    ghost view = { viewed };
+
+    ghost invariant = { IsWhole };
+}
+
+impl Planned {
+    fn warning(&self) -> Warning<'_>
+        ensures { told result ≡ deprecation self.now }
+    {
+        Warning {
+            since: self.since,
+            removal: self.removal,
+            replacement: self.replacement.bytes(),
+        }
+    }
+}
+
+fn has_name(version: &KnownVersion, name: ApiName<'_>) -> bool
+    ensures { result ≡ has_name (named name.entry) version.now }
+{
+    version.table.group.bytes() == name.group
+        && version.table.version.bytes() == name.version
+        && version.table.resource.bytes() == name.resource
+}
+
+fn is_shown_as(version: &ServedVersion, name: ApiName<'_>) -> bool
+    ensures { result ≡ is_shown_as (named name.entry) version.now }
+{
+    version.group.bytes() == name.group
+        && version.version.bytes() == name.version
+        && version.resource.bytes() == name.resource
+}
+
+fn is_live_of(version: &KnownVersion, group: &[u8], resource: &[u8]) -> bool
+    ensures { result ≡ is_live_of group.now resource.now version.now }
+{
+    version.live
+        && version.table.group.bytes() == group
+        && version.table.resource.bytes() == resource
+}
+
+fn version_in<'a>(versions: &'a [KnownVersion], name: ApiName<'_>) -> Option<&'a KnownVersion>
+    ensures { option_copied result ≡ version_in versions.now (named name.entry) }
+{
+    versions.iter().find(|version| has_name(version, name))
+}
+
+// The first of the resource's live versions, which is the most stable one.
+fn first_live<'a>(
+    versions: &'a [KnownVersion],
+    group: &[u8],
+    resource: &[u8],
+) -> Option<&'a KnownVersion>
+    ensures { option_copied result ≡ find (is_live_of group.now resource.now) versions.now }
+{
+    versions
+        .iter()
+        .find(|version| is_live_of(version, group, resource))
+}
+
+impl View {
+    // The served versions are those among the versions.
+    pub(crate) fn new(
+        minor: Minor,
+        gates: GateValues,
+        versions: Vec<KnownVersion>,
+        served: Vec<ServedVersion>,
+    ) -> View
+        requires order { AreInPlace versions.items }
+        requires listed { served.items ≡ served_of versions.items }
+        ensures minor { result.minor ≡ minor }
+        ensures gates { result.gates ≡ gates }
+        ensures versions { result.versions ≡ versions.items }
+    {
+        View {
+            minor,
+            gates,
+            versions,
+            served,
+        }
+    }
+
+    /// The release.
+    pub fn minor(&self) -> Minor
+        ensures { result ≡ self.now.minor }
+    {
+        self.minor
+    }
+
+    /// The served versions, by group, then from the most stable on, then by resource.
+    pub fn served(&self) -> &[ServedVersion]
+        ensures value { result.now ≡ served_of self.now.versions }
+        ensures order { AreInPlace self.now.versions }
+    {
+        self.served.as_slice()
+    }
+
+    /// The version as it is served. None where it isn't.
+    pub fn find(&self, name: ApiName<'_>) -> Option<&ServedVersion>
+        ensures { option_copied result ≡ served_in self.now.versions (named name.entry) }
+    {
+        self.served
+            .iter()
+            .find(|version| is_shown_as(version, name))
+    }
+
+    /// The version's table. None where objects in the version aren't read at the release.
+    pub fn table(&self, name: ApiName<'_>) -> Option<&VersionTable>
+        ensures { option_copied result ≡ table_in self.now.versions (named name.entry) }
+    {
+        match version_in(self.versions.as_slice(), name) {
+            Some(version) => Some(&version.table),
+            None => None,
+        }
+    }
+
+    /// Whether some version of the resource is live.
+    pub fn kind_live(&self, group: &[u8], resource: &[u8]) -> bool
+        ensures { result ≡ has_live self.now.versions group.now resource.now }
+    {
+        self.versions
+            .iter()
+            .any(|version| is_live_of(version, group, resource))
+    }
+
+    /// The table of the most stable live version of the resource. None where none is live.
+    pub fn live_best(&self, group: &[u8], resource: &[u8]) -> Option<&VersionTable>
+        ensures best { IfSome result (λ t. IsBestTable self.now.versions group.now resource.now t.now) }
+        ensures there { is_some result ≡ has_live self.now.versions group.now resource.now }
+    {
+        match first_live(self.versions.as_slice(), group, resource) {
+            Some(version) => Some(&version.table),
+            None => None,
+        }
+    }
+
+    /// What a client is told that uses the version: its first deprecation, while it is live.
+    pub fn warning(&self, name: ApiName<'_>) -> Option<Warning<'_>>
+        ensures { option_map told result ≡ warning_in self.now.versions (named name.entry) }
+    {
+        match version_in(self.versions.as_slice(), name) {
+            Some(
+                KnownVersion {
+                    warning: Some(planned),
+                    ..
+                },
+            ) => Some(planned.warning()),
+            _ => None,
+        }
+    }
+
+    /// The values of the gates.
+    pub fn gates(&self) -> &GateValues
+        ensures { result.now ≡ self.now.gates }
+    {
+        &self.gates
+    }
+}
