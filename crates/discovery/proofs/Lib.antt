@@ -1,0 +1,4 @@
+pub mod DedupLemmas
+pub mod GroupLemmas
+pub mod ServedLemmas
+pub mod PageLemmas

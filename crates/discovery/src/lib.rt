@@ -1,0 +1,14 @@
+//! The documents of what a release serves: groups and their versions, resources, gates and releases (in the manner of
+//! Kubernetes' discovery).
+#![tactic(auto)]
+
+mod gates;
+mod groups;
+mod releases;
+mod resources;
+mod text;
+
+pub use gates::metrics;
+pub use groups::{group, group_list};
+pub use releases::version_info;
+pub use resources::resource_list;
