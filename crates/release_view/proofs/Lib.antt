@@ -4,3 +4,4 @@ pub mod GatherLemmas
 pub mod LookupLemmas
 pub mod LiveLemmas
 pub mod ViewLemmas
+pub mod GateLemmas

@@ -9,6 +9,6 @@ mod release;
 mod served;
 
 pub use build::view;
-pub use law::{tables_determine_view, view_tells_tables};
+pub use law::{tables_determine_view, texts_make_view, view_tells_tables};
 pub use release::View;
 pub use served::ServedVersion;
