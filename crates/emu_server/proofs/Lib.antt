@@ -1,4 +1,4 @@
-pub mod ListingLemmas
-pub mod PageLemmas
 pub mod FloatLemmas
+pub mod ViewLemmas
 pub mod TopLemmas
+pub mod RangeLemmas

@@ -67,10 +67,10 @@ IsIdle status.WriteFault = Unit {0}
 IsIdle _ = ⊥
 
 idle : (c : Command) (bytes : List ℕ) (s : Status) (text : List ℕ) → IsIdle s → IsAnswerTo c bytes s text → ⊥
-idle (Discover o) bytes status.Usage text i h = h.answer.1
-idle (Discover o) bytes status.Memory text i h = h.answer.1
-idle (Discover o) bytes status.ReadFault text i h = h.answer.1
-idle (Discover o) bytes status.WriteFault text i h = h.answer.1
+idle (Discover o r) bytes status.Usage text i h = h.answer.1.2
+idle (Discover o r) bytes status.Memory text i h = h.answer.1.2
+idle (Discover o r) bytes status.ReadFault text i h = h.answer.1.2
+idle (Discover o r) bytes status.WriteFault text i h = h.answer.1.2
 idle (Gates o f) bytes status.Usage text i h = h.answer.1.2
 idle (Gates o f) bytes status.Memory text i h = h.answer.1.2
 idle (Gates o f) bytes status.ReadFault text i h = h.answer.1.2

@@ -9,9 +9,17 @@ use Rattle.flag_text.specs.Pieces.{pieces}
 use Rattle.gate_flags.specs.Values.{Gates, AreGateValues}
 use Rattle.gate_flags.specs.declared.fault.GateCause.{GateCause}
 use Rattle.gate_flags.specs.declared.fault.GateFault.TheVariants.{At}
-use Rattle.gate_spec.specs.Gates.{cutoff}
+use Rattle.gate_spec.specs.Gates.{cutoff as gate_cutoff}
 use Rattle.gate_spec.specs.declared.entry.GateEntry.{GateEntry}
+use Rattle.lifecycle.specs.Entry.{GroupVersionResource}
+use Rattle.lifecycle.specs.Tables.{cutoff}
 use Rattle.lifecycle.specs.declared.entry.ApiEntry.{ApiEntry}
+use Rattle.runtime_config.specs.Config.{IsRuntimeText, IsTextFault as IsConfigFault, AreServed}
+use Rattle.runtime_config.specs.declared.fault.ConfigFault.{ConfigFault}
+use Rattle.runtime_config.specs.declared.fault.ConfigFault.TheVariants as config_fault
+use Rattle.release_view.specs.Known.{AreKnown}
+use Rattle.release_view.specs.Views.{Viewed}
+use Rattle.discovery.specs.Groups.{group_list_page}
 use Rattle.schemas.specs.Dated.{Dated}
 use Rattle.schemas.specs.Rules.{IsAccepted, IsFirstFault, checks, first_of, last_of}
 use Rattle.schemas.specs.declared.array.Array.{Array}
@@ -24,8 +32,7 @@ use Rattle.emu_server.specs.declared.status.Status.TheVariants as status
 use Rattle.emu_server.specs.declared.words.Command.{Command}
 use Rattle.emu_server.specs.declared.words.Command.TheVariants.{Discover, Gates as GatesCommand, Check}
 use Rattle.emu_server.specs.Emulated.{IsEmulated, IsRefusedVersion}
-use Rattle.emu_server.specs.Lines.{usage_line, reading_line, rule_line, accepted_line, version_line, gate_lines, gate_fault_line}
-use Rattle.emu_server.specs.Page.{IsGroupList}
+use Rattle.emu_server.specs.Lines.{usage_line, reading_line, rule_line, accepted_line, version_line, gate_lines, gate_fault_line, config_fault_line}
 use Rattle.emu_server.specs.Words.{AsksFor, text_of}
 
 -- the bytes are no history document, and this line says why
@@ -43,32 +50,44 @@ pub record IsRuleRefusal (history : Dated) (line : List ℕ) : Type 0 where
   pub broken : IsFirstFault history checks rule array number
   pub written : line ≡ rule_line rule array number
 
--- the text is the group list of the release in compact JSON, and one line feed
-abbrev pub IsGroupListLine : List ApiEntry → ℕ → List ℕ → Type 0
-IsGroupListLine entries e text = (tree : Data) × IsGroupList entries e tree × (text ≡ compact_text tree ++ 10 ∷ [])
-
 -- the release to emulate is refused, and this line says why
 abbrev pub IsVersionRefusal : Option (List ℕ) → Dated → List ℕ → Type 0
 IsVersionRefusal emulated h text = (f : VersionFault) × IsRefusedVersion (first_of h) (last_of h) emulated f × (text ≡ version_line (first_of h) (last_of h) f)
 
--- what `discover` is to answer on an accepted history
-abbrev pub IsListing : Option (List ℕ) → Dated → Status → List ℕ → Type 0
-IsListing emulated h status.Ok text = (e : ℕ) × IsEmulated (first_of h) (last_of h) emulated e × IsGroupListLine h.apis e text
-IsListing emulated h status.Flags text = IsVersionRefusal emulated h text
-IsListing emulated h _ text = ⊥
+-- what a command is to answer that emulates a release: its work there, or why the release is refused
+abbrev pub AtRelease : (ℕ → Status → List ℕ → Type 0) → Option (List ℕ) → Dated → Status → List ℕ → Type 0
+AtRelease Work emulated h status.Flags text = IsVersionRefusal emulated h text ⊎ ((e : ℕ) × IsEmulated (first_of h) (last_of h) emulated e × Work e status.Flags text)
+AtRelease Work emulated h s text = (e : ℕ) × IsEmulated (first_of h) (last_of h) emulated e × Work e s text
+
+-- the text is the group list of a release under a runtime configuration that it accepts, in compact JSON, and one line feed
+pub record IsGroupListLine (apis : List ApiEntry) (e : ℕ) (runtime text : List ℕ) : Type 0 where
+  pub valid : IsRuntimeText (cutoff apis e) runtime
+  pub on : List GroupVersionResource
+  pub served : AreServed (cutoff apis e) (pieces runtime) on
+  pub view : Viewed
+  pub known : AreKnown (cutoff apis e) on view.versions
+  pub written : text ≡ compact_text (group_list_page view) ++ 10 ∷ []
+
+-- what `discover` is to answer for a release: the group list, or why it refuses the runtime configuration
+abbrev pub IsListingAt : List ApiEntry → ℕ → List ℕ → Status → List ℕ → Type 0
+IsListingAt apis e runtime status.Ok text = IsGroupListLine apis e runtime text
+IsListingAt apis e runtime status.Flags text = (f : ConfigFault) × (f ≢ config_fault.Memory) × IsConfigFault apis e runtime f × (text ≡ config_fault_line f)
+IsListingAt apis e runtime _ text = ⊥
+
+-- what `discover` is to answer on an accepted history, where no text stands for the empty one
+abbrev pub IsListing : Option (List ℕ) → Option (List ℕ) → Dated → Status → List ℕ → Type 0
+IsListing emulated runtime h s text = AtRelease (λ e. IsListingAt h.apis e (unwrap_or runtime [])) emulated h s text
 
 -- what `gates` is to answer for a release: a line for each gate that its tables know, set by the text; or why it refuses the text
 abbrev pub IsGateListingAt : List GateEntry → ℕ → List ℕ → Status → List ℕ → Type 0
 IsGateListingAt entries e features status.Ok text =
-    (values : Gates) × IsFeatureText (cutoff entries e) features × AreGateValues (cutoff entries e) (pieces features) values × (text ≡ gate_lines values.rows)
+    (values : Gates) × IsFeatureText (gate_cutoff entries e) features × AreGateValues (gate_cutoff entries e) (pieces features) values × (text ≡ gate_lines values.rows)
 IsGateListingAt entries e features status.Flags text = (place : ℕ) × (cause : GateCause) × IsTextFault entries e features (At place cause) × (text ≡ gate_fault_line place cause)
 IsGateListingAt entries e features _ text = ⊥
 
 -- what `gates` is to answer on an accepted history, where no text stands for the empty one
 abbrev pub IsGateListing : Option (List ℕ) → Option (List ℕ) → Dated → Status → List ℕ → Type 0
-IsGateListing emulated features h status.Flags text =
-    IsVersionRefusal emulated h text ⊎ ((e : ℕ) × IsEmulated (first_of h) (last_of h) emulated e × IsGateListingAt h.gates e (unwrap_or features []) status.Flags text)
-IsGateListing emulated features h s text = (e : ℕ) × IsEmulated (first_of h) (last_of h) emulated e × IsGateListingAt h.gates e (unwrap_or features []) s text
+IsGateListing emulated features h s text = AtRelease (λ e. IsGateListingAt h.gates e (unwrap_or features [])) emulated h s text
 
 -- what `check` is to answer on an accepted history
 abbrev pub IsAcceptance : Dated → Status → List ℕ → Type 0
@@ -77,7 +96,7 @@ IsAcceptance h _ text = ⊥
 
 -- what a command is to answer on an accepted history
 abbrev pub IsWork : Command → Dated → Status → List ℕ → Type 0
-IsWork (Discover emulated) h s text = IsListing (text_of emulated) h s text
+IsWork (Discover emulated runtime) h s text = IsListing (text_of emulated) (text_of runtime) h s text
 IsWork (GatesCommand emulated features) h s text = IsGateListing (text_of emulated) (text_of features) h s text
 IsWork Check h s text = IsAcceptance h s text
 

@@ -1,7 +1,4 @@
 pub mod Outside
-pub mod Listing
-pub mod Page
-pub mod Trees
 pub mod Numbers
 pub mod Words
 pub mod Lines

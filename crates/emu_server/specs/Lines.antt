@@ -14,6 +14,9 @@ use Rattle.schemas.specs.Rules.{first_of, last_of}
 use Rattle.schemas.specs.declared.array.Array.{Array}
 use Rattle.history_reader.specs.declared.read.HistoryFault.{HistoryFault}
 use Rattle.history_reader.specs.declared.read.HistoryFault.TheVariants as fault
+use Rattle.runtime_config.specs.Config.{cause_name as config_cause_name}
+use Rattle.runtime_config.specs.declared.fault.ConfigFault.{ConfigFault}
+use Rattle.runtime_config.specs.declared.fault.ConfigFault.TheVariants as config_fault
 use Rattle.emu_server.specs.declared.emulated.VersionFault.{VersionFault}
 use Rattle.emu_server.specs.declared.emulated.VersionFault.TheVariants.{NotAVersion, OutOfRange}
 
@@ -71,3 +74,9 @@ gate_lines rows = flat_map gate_line rows
 -- why a piece of a feature gate text is refused
 abbrev pub gate_fault_line : ℕ → GateCause → List ℕ
 gate_fault_line place cause = codes "feature-gates: piece " ++ (decimal place ++ (codes ": " ++ (cause_name cause ++ codes "\n")))
+
+-- why a runtime configuration is refused
+abbrev pub config_fault_line : ConfigFault → List ℕ
+config_fault_line config_fault.Memory = codes ""
+config_fault_line (config_fault.At place cause) = codes "runtime-config: piece " ++ (decimal place ++ (codes ": " ++ (config_cause_name cause ++ codes "\n")))
+config_fault_line config_fault.OnlyAllFalse = codes "runtime-config: only api/all=false\n"

@@ -19,6 +19,9 @@ emulated_version = codes "--emulated-version="
 abbrev pub feature_gates : List ℕ
 feature_gates = codes "--feature-gates="
 
+abbrev pub runtime_config : List ℕ
+runtime_config = codes "--runtime-config="
+
 -- the option as a word, where it is given
 abbrev pub given : List ℕ → Option (List ℕ) → List (List ℕ)
 given name None = []
@@ -30,13 +33,13 @@ GivesBoth words first second x y = (words ≡ given first x ++ given second y) �
 
 -- the word that names the command
 abbrev pub command_name : Command → List ℕ
-command_name (Discover emulated) = codes "discover"
+command_name (Discover emulated runtime) = codes "discover"
 command_name (Gates emulated features) = codes "gates"
 command_name Check = codes "check"
 
 -- the words are the options of the command
 abbrev pub GivesOptions : List (List ℕ) → Command → Type 0
-GivesOptions words (Discover emulated) = words ≡ given emulated_version (text_of emulated)
+GivesOptions words (Discover emulated runtime) = GivesBoth words emulated_version runtime_config (text_of emulated) (text_of runtime)
 GivesOptions words (Gates emulated features) = GivesBoth words emulated_version feature_gates (text_of emulated) (text_of features)
 GivesOptions words Check = words ≡ []
 

@@ -1,14 +1,18 @@
 //! What the program answers to a command and the bytes of a history.
 ghost use Rattle.std.specs.Prelude.{◌≡◌, [], IfOk, string_bytes, unwrap_or};
-ghost use Rattle.emu_server.specs.Answer.{IsGroupListLine, IsListing, IsGateListingAt, IsGateListing, IsAcceptance, IsWork, IsAnswerOn, IsAnswerTo};
-ghost use Rattle.emu_server.specs.Lines.{reading_line, rule_line, version_line, gate_lines, gate_fault_line};
+ghost use Rattle.emu_server.specs.Answer.{IsGroupListLine, IsListingAt, IsListing, IsGateListingAt, IsGateListing, IsAcceptance, IsWork, IsAnswerOn, IsAnswerTo};
+ghost use Rattle.emu_server.specs.Lines.{reading_line, rule_line, version_line, gate_lines, gate_fault_line, config_fault_line};
+ghost use Rattle.flag_text.specs.Pieces.{pieces};
+ghost use Rattle.lifecycle.specs.Tables.{cutoff};
+ghost use Rattle.runtime_config.specs.Config.{IsRuntimeText, AreServed};
+ghost use Rattle.minor_version.specs.Ranges.{IsEmulable};
 ghost use Rattle.gate_spec.specs.Gates.{RisesInDate};
 ghost use Rattle.emu_server.specs.Words.{text_of};
 ghost use Rattle.schemas.specs.Rules.{first_of, last_of};
 
-use crate::discovery::group_list;
 use crate::emulated::{VersionFault, emulated_release};
 use crate::gates::{gate_refusal, listed_gates};
+use crate::groups::{config_refusal, group_list_line};
 use crate::lines::{acceptance, reading_refusal, rule_refusal, version_refusal};
 use crate::status::Status;
 use crate::words::Command;
@@ -17,8 +21,8 @@ use gate_flags::{GateCause, GateFault, GateValues, gate_values};
 use gate_spec::GateEntry;
 use history_reader::{HistoryFault, read_history};
 use history_rules::{CheckFault, check};
-use lifecycle::ApiEntry;
 use minor_version::Minor;
+use runtime_config::{ConfigFault, Enabled, enabled_at};
 use schemas::{Accepted, Array, History};
 use std::alloc::Global;
 
@@ -27,15 +31,6 @@ use std::alloc::Global;
 pub struct Answer {
     pub status: Status,
     pub text: String,
-}
-
-fn group_list_line(alloc: Global, entries: &[ApiEntry], e: Minor) -> Result<String, Memory>
-    ensures { IfOk result (λ s. IsGroupListLine entries.now e (string_bytes s)) }
-{
-    let value = group_list(alloc, entries, e)?;
-    let mut text = value.to_string(alloc)?;
-    text.push('\n')?;
-    Ok(text)
 }
 
 /// Why the release to emulate is refused.
@@ -53,18 +48,66 @@ fn refused_version(
     })
 }
 
-/// The group list of a release, or why the release is refused.
-fn listing(alloc: Global, emulated: Option<&str>, accepted: &Accepted) -> Result<Answer, Memory>
-    ensures { IfOk result (λ a. IsListing (text_of emulated.entry) accepted.now a.status (string_bytes a.text)) }
+/// Why a runtime configuration is refused.
+fn refused_config(alloc: Global, fault: ConfigFault) -> Result<Answer, Memory>
+    ensures { IfOk result (λ a. (a.status ≡ Status.Flags) × (string_bytes a.text ≡ config_fault_line fault)) }
+{
+    let text = config_refusal(alloc, fault)?;
+    Ok(Answer {
+        status: Status::Flags,
+        text,
+    })
+}
+
+/// The group list of a release that serves these versions by its runtime configuration.
+fn listed_groups(
+    alloc: Global,
+    accepted: &Accepted,
+    e: Minor,
+    runtime: &str,
+    on: Enabled,
+) -> Result<Answer, Memory>
+    requires viewed { IsEmulable (first_of accepted.now) (last_of accepted.now) e }
+    requires valid { IsRuntimeText (cutoff accepted.now.apis e) runtime.now }
+    requires served { AreServed (cutoff accepted.now.apis e) (pieces runtime.now) on }
+    ensures { IfOk result (λ a. (a.status ≡ Status.Ok) × IsGroupListLine accepted.now.apis e runtime.now (string_bytes a.text)) }
+{
+    let text = group_list_line(alloc, accepted, e, runtime, on)?;
+    Ok(Answer {
+        status: Status::Ok,
+        text,
+    })
+}
+
+/// The group list of a release under a runtime configuration, or why it refuses the configuration.
+fn listing_at(
+    alloc: Global,
+    accepted: &Accepted,
+    e: Minor,
+    runtime: &str,
+) -> Result<Answer, Memory>
+    requires { IsEmulable (first_of accepted.now) (last_of accepted.now) e }
+    ensures { IfOk result (λ a. IsListingAt accepted.now.apis e runtime.now a.status (string_bytes a.text)) }
+{
+    let entries = accepted.history().apis.items();
+    match enabled_at(alloc, entries, e, runtime.as_bytes()) {
+        Ok(on) => listed_groups(alloc, accepted, e, runtime, on),
+        Err(ConfigFault::Memory) => Err(Memory),
+        Err(fault) => refused_config(alloc, fault),
+    }
+}
+
+/// The group list of a release, or why the release or its runtime configuration is refused.
+fn listing(
+    alloc: Global,
+    emulated: Option<&str>,
+    runtime: Option<&str>,
+    accepted: &Accepted,
+) -> Result<Answer, Memory>
+    ensures { IfOk result (λ a. IsListing (text_of emulated.entry) (text_of runtime.entry) accepted.now a.status (string_bytes a.text)) }
 {
     match emulated_release(emulated, accepted) {
-        Ok(e) => {
-            let text = group_list_line(alloc, accepted.history().apis.items(), e)?;
-            Ok(Answer {
-                status: Status::Ok,
-                text,
-            })
-        }
+        Ok(e) => listing_at(alloc, accepted, e, text_or_empty(runtime)),
         Err(fault) => refused_version(alloc, accepted, fault),
     }
 }
@@ -152,7 +195,7 @@ fn work(alloc: Global, command: Command<'_>, accepted: &Accepted) -> Result<Answ
     ensures { IfOk result (λ a. IsWork command.entry accepted.now a.status (string_bytes a.text)) }
 {
     match command {
-        Command::Discover { emulated } => listing(alloc, emulated, accepted),
+        Command::Discover { emulated, runtime } => listing(alloc, emulated, runtime, accepted),
         Command::Gates { emulated, features } => gate_listing(alloc, emulated, features, accepted),
         Command::Check => approval(alloc, accepted),
     }

@@ -24,6 +24,7 @@ fn is_emulable(accepted: &Accepted, e: Minor) -> bool
 /// The release that the option names, or the last one.
 pub fn emulated_release(emulated: Option<&str>, accepted: &Accepted) -> Result<Minor, VersionFault>
     ensures ok { IfOk result (IsEmulated (first_of accepted.now) (last_of accepted.now) (text_of emulated.entry)) }
+    ensures emulable { IfOk result (IsEmulable (first_of accepted.now) (last_of accepted.now)) }
     ensures refused { IfErr result (IsRefusedVersion (first_of accepted.now) (last_of accepted.now) (text_of emulated.entry)) }
 {
     let Some(text) = emulated else {

@@ -2,10 +2,10 @@
 #![tactic(auto)]
 
 mod answer;
-mod discovery;
 mod edges;
 mod emulated;
 mod gates;
+mod groups;
 mod lines;
 mod run;
 mod status;

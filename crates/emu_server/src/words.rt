@@ -1,19 +1,22 @@
 //! The words of the command line.
 ghost use Rattle.std.specs.Prelude.{◌≡◌, ◌≢◌, ◌++◌, ◌∷◌, [], ℕ, List, IfSome, IfNone, codes, Some, None};
 ghost use Rattle.std.specs.declared.option.Option.{Option as TheOption};
-ghost use Rattle.emu_server.specs.Words.{AsksFor, GivesBoth, GivesOptions, command_name, texts_of, text_of, given};
+ghost use Rattle.emu_server.specs.Words.{AsksFor, GivesBoth, GivesOptions, command_name, texts_of, text_of};
 ghost use Rattle.emu_server.specs.declared.words.Command.{Command as TheCommand};
 
 const EMULATED_VERSION: &str = "--emulated-version=";
 
 const FEATURE_GATES: &str = "--feature-gates=";
 
+const RUNTIME_CONFIG: &str = "--runtime-config=";
+
 /// What the words ask for.
 #[derive(Clone, Copy, Debug)]
 pub enum Command<'a> {
-    /// The group list of a release.
+    /// The group list of a release under a runtime configuration.
     Discover {
         emulated: Option<&'a str>,
+        runtime: Option<&'a str>,
     },
     /// The feature gates of a release, set by a text.
     Gates {
@@ -33,23 +36,6 @@ fn value_of<'a>(word: &'a str, name: &str) -> Option<&'a str>
     ensures none { IfNone result ((v : List ℕ) → word.now ≢ name.now ++ v) }
 {
     word.strip_prefix(name)
-}
-
-/// The value of the one option that the words may give.
-fn one_option<'a>(words: &[&'a str], name: &str) -> Option<Option<&'a str>>
-    ensures some { IfSome result (λ o. texts_of words.now ≡ given name.now (text_of o)) }
-    ensures none { IfNone result ((o : TheOption (List ℕ)) → texts_of words.now ≢ given name.now o) }
-{
-    if words.is_empty() {
-        return Some(None);
-    }
-    if words.len() > 1 {
-        return None;
-    }
-    match value_of(words[0], name) {
-        Some(value) => Some(Some(value)),
-        None => None,
-    }
 }
 
 /// The values of the two options, where the words give the first and then the second.
@@ -109,8 +95,8 @@ fn discover<'a>(options: &[&'a str]) -> Option<Command<'a>>
     ensures some { IfSome result (λ c. (command_name c ≡ codes "discover") × GivesOptions (texts_of options.now) c) }
     ensures none { IfNone result ((c : TheCommand) → command_name c ≡ codes "discover" → ¬ GivesOptions (texts_of options.now) c) }
 {
-    match one_option(options, EMULATED_VERSION) {
-        Some(emulated) => Some(Command::Discover { emulated }),
+    match two_options(options, EMULATED_VERSION, RUNTIME_CONFIG) {
+        Some((emulated, runtime)) => Some(Command::Discover { emulated, runtime }),
         None => None,
     }
 }

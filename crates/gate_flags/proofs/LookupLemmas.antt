@@ -1,28 +1,17 @@
 -- What is looked up by name, with one entry more.
-use Rattle.std.proofs.Common.{◌≡◌, inl, inr, ℕ, ◌+◌, ◌<◌, Bool, true, false, List, [], ◌∷◌, ◌++◌, All, length, take, drop, reverse, get_or, Option, Some, None, IfSome, refl, sym, ◌∙◌, ap, subst}
+use Rattle.std.proofs.Common.{◌≡◌, inl, inr, ℕ, ◌+◌, ◌<◌, true, false, List, [], ◌∷◌, ◌++◌, All, length, take, get_or, Some, IfSome, sym, ◌∙◌, ap, subst}
 use Rattle.std.specs.Ordering.{nat_cmp}
-use Rattle.std.specs.Option.{option_map, option_map_or, is_some}
-use Rattle.std.specs.List.{list_any, find}
-use Rattle.std.specs.Str.{bytes_eq}
+use Rattle.std.specs.Option.{option_map_or}
 use Rattle.std.specs.Cmp.Lexicographic.{slice_cmp}
 use Rattle.std.specs.BTreeMap.{BTreeMap, IsOrdered, get, Updates, is_at}
-use Rattle.std.proofs.lemmas.Bool.{cases_Bool, cond-true, cond-false}
-use Rattle.std.specs.Bool.{one_answer}
-use Rattle.std.proofs.lemmas.Cmp.{nat_list_cmp_total, eq_by_cmp_equiv}
-use Rattle.std.proofs.lemmas.List.{append_assoc, reverse-append, take-append-drop, take_at, drop_at}
-use Rattle.std.proofs.lemmas.Map.Lookups.{exact_bytes}
-use Rattle.std.proofs.lemmas.Map.Views.{tells_apart}
-use Rattle.std.proofs.lemmas.Slice.Eq.{bytes_eq-Decides}
+use Rattle.std.proofs.lemmas.Bool.{cases_Bool, cond-true}
 use Rattle.gate_spec.specs.declared.entry.GateEntry.{GateEntry}
 use Rattle.gate_spec.specs.declared.entry.SpecAt.{SpecAt}
 use Rattle.gate_spec.specs.declared.entry.SpecAt.TheVariants.{Never}
 use Rattle.gate_spec.specs.Gates.{RisesInDate, IsSpecAt}
 use Rattle.gate_spec.proofs.GateLemmas.{spec_at_read, spec_at_passed}
-use Rattle.flag_text.specs.Pieces.{FlagPiece, last_pieces}
-use Rattle.gate_flags.specs.Values.{boolean_of}
 use Rattle.gate_flags.specs.Lookups.{spec_in, KnowsGates}
 use Rattle.gate_flags.specs.declared.known.Known.{Known}
-
 use Rattle.flag_text.proofs.LastLemmas.{at_same, at_itself}
 
 -- one more entry of the history

@@ -1,15 +1,12 @@
 -- Faults of pieces.
-use Rattle.std.proofs.Common.{◌≡◌, inl, inr, ℕ, ◌+◌, ◌<◌, ◌≤◌, Bool, true, List, [], ◌∷◌, ◌++◌, All, Contains, length, take, drop, get_or, Option, Some, None, Result, Ok, Err, IfErr, refl, sym, ◌∙◌, ap, subst}
+use Rattle.std.proofs.Common.{◌≡◌, inl, inr, ℕ, Bool, true, List, All, Option, Some, None, Result, Ok, Err, IfErr, refl, ◌∙◌, ap, subst}
 use Rattle.std.specs.Option.{is_some, option_and_then}
-use Rattle.std.proofs.lemmas.List.{take-append-drop, drop_more, take_all}
-use Rattle.std.proofs.lemmas.List.Elements.{All-more, All-contains, Contains-append_left, Contains-append_right, Contains-push}
 use Rattle.gate_spec.specs.declared.entry.GateEntry.{GateEntry}
 use Rattle.gate_spec.specs.declared.entry.SpecAt.TheVariants.{Found, Removed, Never, PreAlpha as ComesLater}
 use Rattle.gate_spec.specs.Gates.{RisesInDate, cutoff}
 use Rattle.gate_spec.proofs.GateLemmas.{spec_at_one}
 use Rattle.flag_text.specs.Words.{bool_of}
 use Rattle.flag_text.specs.declared.vocabulary.Vocabulary.TheVariants.{Go}
-use Rattle.flag_text.specs.Passes.{IsFirst}
 use Rattle.flag_text.proofs.PassLemmas.{first_refutes}
 use Rattle.flag_text.specs.Pieces.{FlagPiece, pieces, last_pieces}
 use Rattle.gate_flags.specs.Flags.{IsAssignment, IsAccepted, IsFeatureText, HasFault, IsRefused, IsFirstRefusal, IsTextFault}

@@ -1,5 +1,5 @@
 -- Which flag texts a release accepts, and the first fault of the others.
-use Rattle.std.specs.Prelude.{◌≡◌, ◌≢◌, ◌⊎◌, ℕ, Bool, true, List, ◌∷◌, ◌++◌, All, Some, None, IsSome, codes}
+use Rattle.std.specs.Prelude.{◌≡◌, ◌≢◌, ◌⊎◌, ℕ, Bool, true, List, All, Some, None, IsSome, codes}
 use Rattle.gate_spec.specs.declared.entry.GateEntry.{GateEntry}
 use Rattle.gate_spec.specs.declared.entry.Stage.{Stage}
 use Rattle.gate_spec.specs.declared.entry.SpecAt.TheVariants.{Found, Removed, Never, PreAlpha as ComesLater}

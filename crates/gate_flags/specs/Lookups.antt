@@ -1,9 +1,8 @@
 -- What is looked up by name while a text is read.
-use Rattle.std.specs.Prelude.{◌≡◌, ℕ, Bool, List, find, Option, Some, None, IfSome, option_map, option_and_then, unwrap_or, codes}
+use Rattle.std.specs.Prelude.{◌≡◌, ℕ, Bool, List, Option, Some, None, IfSome, unwrap_or, codes}
 use Rattle.std.specs.List.{filter_map}
 use Rattle.std.specs.Option.{option_map_or}
 use Rattle.std.specs.Ordering.{nat_cmp}
-use Rattle.std.specs.Str.{bytes_eq}
 use Rattle.std.specs.Cmp.Lexicographic.{slice_cmp}
 use Rattle.std.specs.BTreeMap.{BTreeMap, IsOrdered, get, values}
 use Rattle.gate_spec.specs.declared.entry.GateEntry.{GateEntry}

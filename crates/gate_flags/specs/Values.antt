@@ -1,7 +1,6 @@
 -- The values that a flag text gives to gates.
-use Rattle.std.specs.Prelude.{◌≡◌, ◌↔◌, ◌⊎◌, ℕ, Bool, List, map, find, Contains, Any, Option, None, unwrap_or, codes, option_and_then}
+use Rattle.std.specs.Prelude.{◌≡◌, ◌↔◌, ◌⊎◌, ℕ, Bool, List, map, Contains, Any, Option, None, unwrap_or, codes}
 use Rattle.std.specs.Ordering.{nat_cmp}
-use Rattle.std.specs.Str.{bytes_eq}
 use Rattle.std.specs.Cmp.Lexicographic.{slice_cmp}
 use Rattle.std.specs.List.Sorted.{IsStrictlySortedBy}
 use Rattle.gate_spec.specs.declared.entry.GateEntry.{GateEntry}

@@ -1,5 +1,5 @@
 -- The tables of a release against the dated entries.
-use Rattle.std.proofs.Common.{◌≡◌, ◌&&◌, ◌↔◌, not, ℕ, ◌≤◌, Bool, true, false, List, [], ◌∷◌, Option, Some, None, refl, sym, ◌∙◌, ap, cond, inl, inr}
+use Rattle.std.proofs.Common.{◌≡◌, ◌&&◌, ◌↔◌, not, ℕ, Bool, true, false, List, [], ◌∷◌, Option, Some, None, refl, sym, ◌∙◌, ap, cond, inl, inr}
 use Rattle.std.specs.Prelude.{filter, find, nat_le, Any}
 use Rattle.std.specs.List.{list_any}
 use Rattle.std.specs.Option.{is_some, option_and_then}
@@ -79,22 +79,21 @@ pub is_of-subject : (name : GroupVersionResource) (x : ApiEntry) → subject x �
 is_of-subject name x same = of_from name x (ap (λ n. n.group) same) (ap (λ n. n.version) same) (ap (λ n. n.resource) same)
 
 module _ (name : GroupVersionResource) (e : ℕ) where
-
   -- a change in the tables is a dated change of the history
   pub change_dated : (test : ApiChange → Bool) (Is : ApiChange → Type 0) (entries : List ApiEntry) → ((c : ApiChange) → (test c ≡ true) ↔ Is c) → (has_change test (cutoff entries e) name ≡ true) ↔ Any (λ x. IsKnownOf name e x × Is x.change) entries
   change_dated test Is entries says = (
     λ h.
         Any-map (λ x. (nat_le x.since e && (is_of name x && test x.change)) ≡ true) (λ x. IsKnownOf name e x × Is x.change) entries (λ x p.
-            let (dated, rest) = and_parts (nat_le x.since e) (is_of name x && test x.change) p in
-            let (of, change) = and_parts (is_of name x) (test x.change) rest in
-            let parts = of_parts name x of in
-            (record { group = parts.0; version = parts.1; resource = parts.2; dated = leb-true x.since e dated }, (says x.change).0 change))
+        let (dated, rest) = and_parts (nat_le x.since e) (is_of name x && test x.change) p in
+        let (of, change) = and_parts (is_of name x) (test x.change) rest in
+        let parts = of_parts name x of in
+        (record { group = parts.0; version = parts.1; resource = parts.2; dated = leb-true x.since e dated }, (says x.change).0 change))
         (Any-from_list_any (λ x. nat_le x.since e && (is_of name x && test x.change)) entries (sym (has_change-cutoff test entries e name) ∙ h)),
     λ h.
         has_change-cutoff test entries e name ∙ list_any-from_Any (λ x. nat_le x.since e && (is_of name x && test x.change)) entries
         (Any-map (λ x. IsKnownOf name e x × Is x.change) (λ x. (nat_le x.since e && (is_of name x && test x.change)) ≡ true) entries (λ x p.
-            and_from (nat_le x.since e) (is_of name x && test x.change) (le-leb x.since e p.0.dated)
-            (and_from (is_of name x) (test x.change) (of_from name x p.0.group p.0.version p.0.resource) ((says x.change).1 p.1)))
+        and_from (nat_le x.since e) (is_of name x && test x.change) (le-leb x.since e p.0.dated)
+        (and_from (is_of name x) (test x.change) (of_from name x p.0.group p.0.version p.0.resource) ((says x.change).1 p.1)))
         h),
   )
 

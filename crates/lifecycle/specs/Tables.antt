@@ -1,6 +1,6 @@
 -- What the tables of a release say of a version of a resource. The tables are the dated changes up to the release: no later change and no
 -- emulated release occurs in them.
-use Rattle.std.specs.Prelude.{◌≡◌, ◌&&◌, not, ℕ, nat_le, Bool, true, false, List, filter, find, Option, Some, None, is_some, option_and_then, cond}
+use Rattle.std.specs.Prelude.{◌&&◌, not, ℕ, nat_le, Bool, true, false, List, filter, find, Option, Some, None, is_some, option_and_then, cond}
 use Rattle.std.specs.Str.{bytes_eq}
 use Rattle.lifecycle.specs.Entry.{GroupVersionResource}
 use Rattle.lifecycle.specs.declared.entry.ApiEntry.{ApiEntry}

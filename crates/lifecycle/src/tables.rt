@@ -79,33 +79,25 @@ fn is_of(entry: &ApiEntry, name: ApiName<'_>) -> bool
 fn is_introduced(entries: &[ApiEntry], name: ApiName<'_>, e: Minor) -> bool
     ensures { result ≡ list_any (λ x. nat_le x.since e && (is_of (named name.entry) x && is_introduction x.change)) entries.now }
 {
-    entries
-        .iter()
-        .any(|x| x.since <= e && (is_of(x, name) && x.change.is_introduction()))
+    entries.iter().any(|x| x.since <= e && (is_of(x, name) && x.change.is_introduction()))
 }
 
 fn is_removed(entries: &[ApiEntry], name: ApiName<'_>, e: Minor) -> bool
     ensures { result ≡ list_any (λ x. nat_le x.since e && (is_of (named name.entry) x && is_removal x.change)) entries.now }
 {
-    entries
-        .iter()
-        .any(|x| x.since <= e && (is_of(x, name) && x.change.is_removal()))
+    entries.iter().any(|x| x.since <= e && (is_of(x, name) && x.change.is_removal()))
 }
 
 fn is_forgotten(entries: &[ApiEntry], name: ApiName<'_>, e: Minor) -> bool
     ensures { result ≡ list_any (λ x. nat_le x.since e && (is_of (named name.entry) x && is_forgetting x.change)) entries.now }
 {
-    entries
-        .iter()
-        .any(|x| x.since <= e && (is_of(x, name) && x.change.is_forgetting()))
+    entries.iter().any(|x| x.since <= e && (is_of(x, name) && x.change.is_forgetting()))
 }
 
 fn deprecation<'a>(entries: &'a [ApiEntry], name: ApiName<'_>, e: Minor) -> Option<&'a ApiEntry>
     ensures { option_copied result ≡ find (λ x. nat_le x.since e && (is_of (named name.entry) x && is_deprecation x.change)) entries.now }
 {
-    entries
-        .iter()
-        .find(|x| x.since <= e && (is_of(x, name) && x.change.is_deprecation()))
+    entries.iter().find(|x| x.since <= e && (is_of(x, name) && x.change.is_deprecation()))
 }
 
 /// Whether the version is there at the release: introduced at or before it, and not removed.

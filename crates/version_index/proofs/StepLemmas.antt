@@ -1,9 +1,9 @@
 -- How the map of first changes grows by an entry.
-use Rattle.std.proofs.Common.{◌≡◌, ◌&&◌, ℕ, Bool, true, false, List, [], ◌∷◌, ◌++◌, Option, Some, None, cond, refl, sym, ◌∙◌, ap, subst, inl, inr}
-use Rattle.std.specs.Prelude.{find, filter, nat_le}
+use Rattle.std.proofs.Common.{◌≡◌, ◌&&◌, ℕ, Bool, true, false, List, [], ◌∷◌, ◌++◌, Option, Some, None, cond, refl, sym, ◌∙◌, ap, inl, inr}
+use Rattle.std.specs.Prelude.{find}
 use Rattle.std.specs.Option.{is_some, option_map}
 use Rattle.std.specs.Borrow.{Bor}
-use Rattle.std.proofs.lemmas.Bool.{cases_Bool, cond-true, cond-false, false≢true, and_parts, and_right, both_ways}
+use Rattle.std.proofs.lemmas.Bool.{cases_Bool, cond-true, cond-false, false≢true, and_right}
 use Rattle.basis.specs.NameMap.{value_at, is_same_name}
 use Rattle.lifecycle.specs.Entry.{GroupVersionResource, subject}
 use Rattle.lifecycle.specs.Tables.{is_of, first_change}

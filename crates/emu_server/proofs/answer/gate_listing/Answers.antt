@@ -1,5 +1,5 @@
 -- An accepted history's entries of one gate rise in date, and the release that was read is the one that is listed.
-use Rattle.std.proofs.Common.{◌≡◌, ℕ, List, [], Option, unwrap_or, inr, string_bytes, sym, subst, ap, ◌∙◌}
+use Rattle.std.proofs.Common.{◌≡◌, ℕ, List, [], Option, unwrap_or, string_bytes, sym, subst, ap, ◌∙◌}
 use Rattle.std.proofs.lemmas.Result.{IfOk-weaker}
 use Rattle.gate_spec.specs.Gates.{RisesInDate}
 use Rattle.gate_spec.specs.declared.entry.GateEntry.{GateEntry}
@@ -11,26 +11,13 @@ use Rattle.emu_server.specs.Emulated.{IsEmulated}
 use Rattle.emu_server.specs.Words.{text_of}
 use Rattle.emu_server.specs.declared.answer.Answer.{Answer}
 use Rattle.emu_server.specs.declared.status.Status.{Status}
-use Rattle.emu_server.specs.declared.status.Status.TheVariants as status
+use Rattle.emu_server.proofs.RangeLemmas.{at_release}
 use Rattle.emu_server.proofs.answer.gate_listing.Goals as goal
-
-listed_at : (emulated features : Option (List ℕ)) (h : Dated) (e : ℕ) (s : Status) (text : List ℕ) → IsEmulated (first_of h) (last_of h) emulated e → IsGateListingAt h.gates e (unwrap_or features []) s text → IsGateListing emulated features h s text
-listed_at emulated features h e status.Flags text is at = inr (e, is, at)
-listed_at emulated features h e status.Ok text is at = (e, is, at)
-listed_at emulated features h e status.Usage text is at = absurd at
-listed_at emulated features h e status.Memory text is at = absurd at
-listed_at emulated features h e status.ReadFault text is at = absurd at
-listed_at emulated features h e status.WriteFault text is at = absurd at
-listed_at emulated features h e status.DiskFault text is at = absurd at
-listed_at emulated features h e status.FrontFault text is at = absurd at
-listed_at emulated features h e status.History text is at = absurd at
-listed_at emulated features h e status.Store text is at = absurd at
-listed_at emulated features h e status.Spent text is at = absurd at
 
 listed : (emulated features : Option (List ℕ)) (h : Dated) (e : ℕ) (entries : List GateEntry) (given : List ℕ) (s : Status) (text : List ℕ) → entries ≡ h.gates → given ≡ unwrap_or features [] → IsEmulated (first_of h) (last_of h) emulated e
     → IsGateListingAt entries e given s text → IsGateListing emulated features h s text
 listed emulated features h e entries given s text same_gates same_text is at =
-    listed_at emulated features h e s text is (subst (λ t. IsGateListingAt h.gates e t s text) same_text (subst (λ xs. IsGateListingAt xs e given s text) same_gates at))
+    at_release (λ e. IsGateListingAt h.gates e (unwrap_or features [])) emulated h e s text is (subst (λ t. IsGateListingAt h.gates e t s text) same_text (subst (λ xs. IsGateListingAt xs e given s text) same_gates at))
 
 pub gate_listing_at-requires : goal.gate_listing_at-requires
 gate_listing_at-requires c =

@@ -1,6 +1,4 @@
-use Rattle.std.proofs.Common.{◌≡◌, inl, inr, ℕ, true, List, [], ◌∷◌, ◌++◌, Option, Some, None, IsSome, refl, sym, ◌∙◌, ap, ap₂, subst}
-use Rattle.std.specs.List.{AllByRecursion}
-use Rattle.std.proofs.lemmas.List.Elements.{recursion_from_All}
+use Rattle.std.proofs.Common.{◌≡◌, inl, inr, ℕ, true, List, Option, Some, None, IsSome, refl, sym, ◌∙◌, ap}
 use Rattle.gate_spec.specs.declared.entry.GateEntry.{GateEntry}
 use Rattle.gate_spec.specs.declared.entry.SpecAt.{SpecAt}
 use Rattle.gate_spec.specs.declared.entry.SpecAt.TheVariants.{Found, Removed, Never, PreAlpha as ComesLater}
@@ -8,7 +6,6 @@ use Rattle.gate_spec.specs.Gates.{RisesInDate, cutoff, IsSpecAt}
 use Rattle.gate_spec.proofs.GateLemmas.{spec_at_one}
 use Rattle.flag_text.specs.Pieces.{FlagPiece, pieces, last_pieces}
 use Rattle.gate_flags.specs.Flags.{IsAssignment, IsAccepted, HasFault, IsRefused}
-use Rattle.flag_text.specs.Passes.{IsFirst}
 use Rattle.gate_flags.specs.Laws.{HasOneFault, IsFaultlessWhereValid}
 use Rattle.gate_flags.specs.declared.fault.GateCause.{GateCause}
 use Rattle.gate_flags.specs.declared.fault.GateCause.TheVariants.{Missing, BadBool, Unknown, PreAlpha, Locked}

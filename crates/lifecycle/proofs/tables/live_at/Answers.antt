@@ -1,4 +1,4 @@
-use Rattle.std.proofs.Common.{◌≡◌, ◌↔◌, ℕ, Bool, true, List, IsTrue, sym, ◌∙◌}
+use Rattle.std.proofs.Common.{◌≡◌, ◌↔◌, ℕ, Bool, List, IsTrue, sym, ◌∙◌}
 use Rattle.lifecycle.specs.Entry.{named, GroupVersionResource, IsLive}
 use Rattle.lifecycle.specs.Tables.{cutoff, live, is_introduction, is_removal}
 use Rattle.lifecycle.specs.declared.entry.ApiEntry.{ApiEntry}

@@ -1,7 +1,5 @@
-use Rattle.std.proofs.Common.{ap, sym, ◌∙◌}
-use Rattle.std.specs.Option.{option_and_then, option_copied}
+use Rattle.std.proofs.Common.{sym, ◌∙◌}
 use Rattle.lifecycle.specs.Entry.{named}
-use Rattle.lifecycle.specs.Tables.{deprecation_of}
 use Rattle.lifecycle.proofs.TableLemmas.{warning_by}
 use Rattle.lifecycle.proofs.tables.warning_at.Goals as goal
 

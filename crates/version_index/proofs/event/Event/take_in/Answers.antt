@@ -1,4 +1,4 @@
-use Rattle.std.proofs.Common.{sym, ◌∙◌, List, ap, refl, Result, Ok, Err, OnOk, Bor}
+use Rattle.std.proofs.Common.{sym, ◌∙◌, List, ap, refl, Result, Ok, Err, OnOk}
 use Rattle.std.specs.Option.{is_some}
 use Rattle.lifecycle.specs.declared.entry.ApiEntry.{ApiEntry as TheEntry}
 use Rattle.version_index.specs.Events.{is_event}
@@ -23,6 +23,6 @@ pub returns : goal.returns
 returns c =
     OnOk-map c.put.result _ _
     (λ puts (tables : List TheEntry) h.
-        put_in (is_event c.args.self) tables c.args.entry.now c.args.map.now c.put.new.map c.args.entry _ _ _ c.bytes-group.ensures c.bytes-version.ensures c.bytes-resource.ensures refl (sym c.is_of.ensures ∙ c.if-not-is_of.false)
-        (ap is_some (sym c.value_of.ensures) ∙ sym c.is_some.ensures ∙ c.if-is_some.false) puts h)
+    put_in (is_event c.args.self) tables c.args.entry.now c.args.map.now c.put.new.map c.args.entry _ _ _ c.bytes-group.ensures c.bytes-version.ensures c.bytes-resource.ensures refl (sym c.is_of.ensures ∙ c.if-not-is_of.false)
+    (ap is_some (sym c.value_of.ensures) ∙ sym c.is_some.ensures ∙ c.if-is_some.false) puts h)
     c.put.ensures
