@@ -1,4 +1,3 @@
-pub mod Outside
 pub mod Numbers
 pub mod Words
 pub mod Lines

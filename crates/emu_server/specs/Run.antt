@@ -7,7 +7,7 @@ use Rattle.emu_server.specs.declared.status.Status.TheVariants as status
 use Rattle.emu_server.specs.declared.words.Command.{Command}
 use Rattle.emu_server.specs.Answer.{IsAnswer}
 use Rattle.emu_server.specs.Lines.{read_fault_line}
-use Rattle.emu_server.specs.Outside.{AppendsFront}
+use Rattle.outside.specs.Streams.{AppendsFront}
 use Rattle.emu_server.specs.Words.{AsksFor}
 
 -- the words are of a command

@@ -4,7 +4,7 @@ use Rattle.std.specs.declared.option.Option.{Option}
 use Rattle.std.specs.Io.KnownBytes.{Appends}
 use Rattle.emu_server.specs.declared.status.Status.{Status}
 use Rattle.emu_server.specs.declared.status.Status.TheVariants as status
-use Rattle.emu_server.specs.Outside.{AppendsFront}
+use Rattle.outside.specs.Streams.{AppendsFront}
 
 -- the text was written whole and the status is the wanted one, or a front of it was written and the status is that of a write fault
 abbrev pub IsWritten : Option (List ℕ) → Option (List ℕ) → Status → Status → List ℕ → Type 0

@@ -2,7 +2,6 @@
 #![tactic(auto)]
 
 mod answer;
-mod edges;
 mod emulated;
 mod gates;
 mod groups;
@@ -14,9 +13,7 @@ mod taking;
 mod tests;
 mod words;
 
-pub use edges::fail_list::FailList;
-pub use edges::memory::{MemSink, MemSource};
-pub use edges::outside::{Failed, Sink, Source};
-pub use edges::standard::{StdSink, StdSource};
+pub use disk::{FailList, Failed};
+pub use outside::{MemSink, MemSource, Sink, Source, StdSink, StdSource};
 pub use run::run_plain;
 pub use status::Status;

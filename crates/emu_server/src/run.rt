@@ -2,17 +2,17 @@
 ghost use Rattle.std.specs.Prelude.{◌≡◌, ◌≤◌, ◌+◌, ◌⊎◌, ℕ, List, Some};
 ghost use Rattle.std.specs.Io.KnownBytes.{Keeps, Appends, IsAtEnd};
 ghost use Rattle.basis.specs.Counts.{Rose};
-ghost use Rattle.emu_server.specs.Outside.{AppendsFront};
 ghost use Rattle.emu_server.specs.Run.{IsCommandLine, IsEnd, TakesAtMost};
 ghost use Rattle.emu_server.specs.Words.{texts_of};
 ghost use Rattle.emu_server.specs.Written.{IsWritten};
+ghost use Rattle.outside.specs.Streams.{AppendsFront};
 
 use crate::answer::answer_to;
-use crate::edges::outside::{Sink, Source};
 use crate::status::Status;
 use crate::taking::{TakeFault, take_history};
 use crate::words::read_words;
 use history_reader::LONGEST_DOCUMENT;
+use outside::{Sink, Source};
 use std::alloc::Global;
 
 /// Writes a text, and ends with a status.

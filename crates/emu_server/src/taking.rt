@@ -4,8 +4,8 @@ ghost use Rattle.std.specs.Io.KnownBytes.{Keeps, Consumes, IsAtEnd};
 ghost use Rattle.basis.specs.Counts.{Rose};
 ghost use Rattle.emu_server.specs.Run.{TakesAtMost};
 
-use crate::edges::outside::Source;
 use history_reader::LONGEST_DOCUMENT;
+use outside::Source;
 use std::alloc::Global;
 
 /// How many bytes are asked for at once.

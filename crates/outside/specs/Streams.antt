@@ -1,5 +1,5 @@
 -- What a write leaves, and the state of the objects in memory.
-use Rattle.std.specs.Prelude.{ℕ, ◌+◌, ◌-◌, ◌^◌, min, List, take, MatchResult}
+use Rattle.std.specs.Prelude.{ℕ, List, take, MatchResult}
 use Rattle.std.specs.declared.option.Option.{Option}
 use Rattle.std.specs.declared.result.Result.{Result}
 use Rattle.std.specs.Io.KnownBytes.{Appends}
@@ -11,10 +11,6 @@ AppendsFront old new bytes = (n : ℕ) × Appends old new (take n bytes)
 -- a write appends all the bytes, or at a refusal a front of them
 abbrev pub WritesWhole : {T E : Type 0} → Option (List ℕ) → Option (List ℕ) → Result T E → List ℕ → Type 0
 WritesWhole old new result bytes = MatchResult result (λ _. Appends old new bytes) (λ _. AppendsFront old new bytes)
-
--- a count one higher, which stays at the greatest u64
-abbrev pub counted : ℕ → ℕ
-counted n = min (n + 1) (2 ^ 64 - 1)
 
 -- a source in memory: the bytes left, how often it was called and how often in vain, and the numbers of the calls that fail
 pub record Feed : Type 0 where

@@ -4,22 +4,9 @@ ghost use Rattle.std.specs.declared.option.Option.{Option};
 ghost use Rattle.std.specs.Io.{ReadsAtMost};
 ghost use Rattle.std.specs.Io.KnownBytes.{ReadConsumes};
 ghost use Rattle.basis.specs.Counts.{HasCause};
-ghost use Rattle.emu_server.specs.Outside.{WritesWhole};
+ghost use Rattle.outside.specs.Streams.{WritesWhole};
 
-use std::error::Error;
-use std::fmt;
-
-/// The object outside failed, and counted it.
-#[derive(Clone, Copy, Debug, PartialEq, Eq)]
-pub struct Failed;
-
-impl fmt::Display for Failed {
-    fn fmt<W: fmt::Write>(&self, f: &mut fmt::Formatter<W>) -> fmt::Result {
-        f.write_str("failed")
-    }
-}
-
-impl Error for Failed {}
+use disk::Failed;
 
 /// Where bytes come from.
 pub trait Source {

@@ -1,8 +1,9 @@
 //! Standard input and output as a source and a sink. They tell nothing, and count their errors.
 ghost use Rattle.std.specs.Prelude.{None};
 
-use crate::edges::outside::{Failed, Sink, Source};
+use crate::streams::{Sink, Source};
 use basis::raised;
+use disk::Failed;
 use std::io::Read;
 
 /// Standard input.

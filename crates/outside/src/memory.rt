@@ -3,11 +3,12 @@ ghost use Rattle.std.specs.Prelude.{◌≡◌, ◌↔◌, ◌⊎◌, [], Some, I
 ghost use Rattle.std.specs.Io.{ReadsAtMost};
 ghost use Rattle.std.specs.Io.KnownBytes.{ReadConsumes};
 ghost use Rattle.basis.specs.Counts.{HasCause};
-ghost use Rattle.emu_server.specs.Outside.{WritesWhole, counted};
+ghost use Rattle.disk.specs.Counted.{counted};
+ghost use Rattle.outside.specs.Streams.{WritesWhole};
 
-use crate::edges::fail_list::FailList;
-use crate::edges::outside::{Failed, Sink, Source};
+use crate::streams::{Sink, Source};
 use basis::raised;
+use disk::{FailList, Failed};
 use minor_version::Blob;
 use std::alloc::Global;
 use std::marker::Model;
@@ -24,7 +25,7 @@ pub struct MemSource {
 
 impl Model for MemSource {
     ghost use Rattle.std.specs.Prelude.{◌≤◌, drop, length};
-    ghost use Rattle.emu_server.specs.Outside.{Feed};
+    ghost use Rattle.outside.specs.Streams.{Feed};
 
     ghost Value = { Feed };
 
@@ -88,7 +89,7 @@ pub struct MemSink {
 }
 
 impl Model for MemSink {
-    ghost use Rattle.emu_server.specs.Outside.{Record};
+    ghost use Rattle.outside.specs.Streams.{Record};
 
     ghost Value = { Record };
 
