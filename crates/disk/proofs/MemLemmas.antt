@@ -9,15 +9,15 @@ use Rattle.disk.specs.declared.log.Change.TheVariants.{Wrote, WriteFailed, Cut, 
 use Rattle.disk.specs.Images.{Pending, IsImage, Images, resting, end_of_lengths, after_write, after_cut, same_file, OthersHold, patched}
 use Rattle.disk.specs.ImageLaws.{same_file_refl, reached_later}
 use Rattle.disk.specs.Slots.{Three, file_of}
-use Rattle.disk.specs.MemDisk.{State, resting_state, step, one, replay, state_in, MemRecord, state_at, mem_held, InPast, KeepsHeld}
+use Rattle.disk.specs.MemDisk.{State, resting_state, step, entered, replay, state_in, MemRecord, state_at, mem_held, InPast, KeepsHeld}
 use Rattle.disk.specs.MemLaws.{IsGood}
 use Rattle.disk.specs.Stops.{IsPicked}
 
 -- the record of calls
 
-pub replay_push : (t : ℕ) (f : File) (es : List Entry) (e : Entry) (s : State) → replay t f (es ++ e ∷ []) s ≡ one t f e (replay t f es s)
+pub replay_push : (t : ℕ) (f : File) (es : List Entry) (e : Entry) (s : State) → replay t f (es ++ e ∷ []) s ≡ entered t f e (replay t f es s)
 replay_push t f [] e s = refl
-replay_push t f (x ∷ es) e s = replay_push t f es e (one t f x s)
+replay_push t f (x ∷ es) e s = replay_push t f es e (entered t f x s)
 
 le_true : (a b : ℕ) → a ≤ b → nat_le a b ≡ true
 le_true a b h = grind (arith, nat_tests)
@@ -25,16 +25,16 @@ le_true a b h = grind (arith, nat_tests)
 le_false : (a b : ℕ) → b < a → nat_le a b ≡ false
 le_false a b h = grind (arith, nat_tests)
 
-pub one_at : (t : ℕ) (f : File) (e : Entry) (s : State) → e.moment ≤ t → one t f e s ≡ (if same_file f e.file then step e.change s else s)
+pub one_at : (t : ℕ) (f : File) (e : Entry) (s : State) → e.moment ≤ t → entered t f e s ≡ (if same_file f e.file then step e.change s else s)
 one_at t f e s le = ap (λ b. if b && same_file f e.file then step e.change s else s) (le_true e.moment t le)
 
-pub one_after : (t : ℕ) (f : File) (e : Entry) (s : State) → t < e.moment → one t f e s ≡ s
+pub one_after : (t : ℕ) (f : File) (e : Entry) (s : State) → t < e.moment → entered t f e s ≡ s
 one_after t f e s lt = ap (λ b. if b && same_file f e.file then step e.change s else s) (le_false e.moment t lt)
 
 pub replay_past : (c t : ℕ) (f : File) (es : List Entry) (s : State) → InPast c es → c ≤ t → replay t f es s ≡ replay c f es s
 replay_past c t f [] s past le = refl
 replay_past c t f (e ∷ es) s past le =
-    replay_past c t f es (one t f e s) past.1 le
+    replay_past c t f es (entered t f e s) past.1 le
     ∙ ap (λ x. replay c f es x) (one_at t f e s (omega (arith, past.0, le)) ∙ sym (one_at c f e s past.0))
 
 past_later : (c d : ℕ) (es : List Entry) → InPast c es → c ≤ d → InPast d es
@@ -166,13 +166,13 @@ step_spans Synced s h = resting_spans s.held
 
 spans_from : (t : ℕ) (f : File) (es : List Entry) (s : State) → Spans s.pending → Spans (replay t f es s).pending
 spans_from t f [] s h = h
-spans_from t f (e ∷ es) s h = spans_from t f es (one t f e s) (spans_if (nat_le e.moment t && same_file f e.file) (step e.change s) s (step_spans e.change s h) h)
+spans_from t f (e ∷ es) s h = spans_from t f es (entered t f e s) (spans_if (nat_le e.moment t && same_file f e.file) (step e.change s) s (step_spans e.change s h) h)
 
 pub replay_spans : (t : ℕ) (f : File) (es : List Entry) (bytes : List ℕ) → Spans (replay t f es (resting_state bytes)).pending
 replay_spans t f es bytes = spans_from t f es (resting_state bytes) (resting_spans bytes)
 
 -- one entry more
-pub replay_more : (t : ℕ) (f : File) (es : List Entry) (i : ℕ) (e : Entry) (s : State) → take (i + 1) es ≡ take i es ++ e ∷ [] → replay t f (take (i + 1) es) s ≡ one t f e (replay t f (take i es) s)
+pub replay_more : (t : ℕ) (f : File) (es : List Entry) (i : ℕ) (e : Entry) (s : State) → take (i + 1) es ≡ take i es ++ e ∷ [] → replay t f (take (i + 1) es) s ≡ entered t f e (replay t f (take i es) s)
 replay_more t f es i e s is = ap (λ l. replay t f l s) is ∙ replay_push t f (take i es) e s
 
 -- each pick leaves an image

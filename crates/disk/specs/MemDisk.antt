@@ -37,12 +37,12 @@ KeepsHeld (Wrote at bytes) = ⊥
 KeepsHeld (Cut to) = ⊥
 
 -- an entry, for one file, where it is no later than a moment
-abbrev pub one : ℕ → File → Entry → State → State
-one t f e s = if nat_le e.moment t && same_file f e.file then step e.change s else s
+abbrev pub entered : ℕ → File → Entry → State → State
+entered t f e s = if nat_le e.moment t && same_file f e.file then step e.change s else s
 
 abbrev pub replay : ℕ → File → List Entry → State → State
 replay t f [] s = s
-replay t f (e ∷ es) s = replay t f es (one t f e s)
+replay t f (e ∷ es) s = replay t f es (entered t f e s)
 
 -- a file at a moment
 abbrev pub state_in : Three → List Entry → ℕ → File → State

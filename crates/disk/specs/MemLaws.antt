@@ -9,7 +9,7 @@ use Rattle.disk.specs.declared.log.Change.{Change}
 use Rattle.disk.specs.declared.log.Change.TheVariants.{Wrote, WriteFailed, Cut, CutFailed, Synced}
 use Rattle.disk.specs.Images.{IsImage, covers, end_of_lengths, after_write, after_cut, same_file, patched}
 use Rattle.disk.specs.ImageLaws.{patch, or_parts, outside_of_write, within_image, within_write, within_cut, resting_image, reached_short}
-use Rattle.disk.specs.MemDisk.{State, resting_state, step, one, replay, MemRecord, mem_held, mem_may_leave}
+use Rattle.disk.specs.MemDisk.{State, resting_state, step, entered, replay, MemRecord, mem_held, mem_may_leave}
 use Rattle.disk.specs.Slots.{file_of}
 
 -- what the file holds is an image of it
@@ -57,7 +57,7 @@ step_good Synced s h = resting_image s.held
 
 pub replay_good : (t : ℕ) (f : File) (es : List Entry) (s : State) → IsGood s → IsGood (replay t f es s)
 replay_good t f [] s h = h
-replay_good t f (e ∷ es) s h = replay_good t f es (one t f e s) (if_good (nat_le e.moment t && same_file f e.file) (step e.change s) s (λ _. step_good e.change s h) h)
+replay_good t f (e ∷ es) s h = replay_good t f es (entered t f e s) (if_good (nat_le e.moment t && same_file f e.file) (step e.change s) s (λ _. step_good e.change s h) h)
 
 pub mem_held_now : (d : MemRecord) → mem_may_leave d d.clock (mem_held d)
 mem_held_now d f = replay_good d.clock f d.log (resting_state (file_of d.first f)) (resting_image (file_of d.first f))

@@ -1,6 +1,6 @@
 ghost use Rattle.std.specs.Prelude.{◌≡◌, ◌⊎◌, ◌↔◌, ◌≤◌, ◌<◌, ◌%◌, ℕ, length, max, get_or, IfOk, OnOk, IsTrue};
 ghost use Rattle.disk.specs.Images.{Pending, same_file, reached, after_write, after_cut};
-ghost use Rattle.disk.specs.MemDisk.{State, step, one, replay, resting_state};
+ghost use Rattle.disk.specs.MemDisk.{State, step, entered, replay, resting_state};
 ghost use Rattle.disk.specs.Stops.{IsFilled, IsPicked, IsLeft};
 
 use crate::file::File;
@@ -128,8 +128,8 @@ fn next(
     t: u64,
     pick: u64,
 ) -> Result<(), Memory>
-    ensures held { OnOk result ((s : State) → s.held ≡ held.old.items → (one t file entry.now s).held ≡ held.new.items) }
-    ensures left { OnOk result ((s : State) → s.held ≡ held.old.items → length s.pending.base ≤ s.pending.greatest → IsLeft pick s.pending left.old.items → IsLeft pick (one t file entry.now s).pending left.new.items) }
+    ensures held { OnOk result ((s : State) → s.held ≡ held.old.items → (entered t file entry.now s).held ≡ held.new.items) }
+    ensures left { OnOk result ((s : State) → s.held ≡ held.old.items → length s.pending.base ≤ s.pending.greatest → IsLeft pick s.pending left.old.items → IsLeft pick (entered t file entry.now s).pending left.new.items) }
 {
     if entry.moment <= t && is_same(file, entry.file) {
         next_left(alloc, held.as_slice(), left, &entry.change, pick)?;
