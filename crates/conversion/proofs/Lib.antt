@@ -11,3 +11,4 @@ pub mod ReachLemmas
 pub mod ValueLemmas
 pub mod SameLemmas
 pub mod FaultLemmas
+pub mod FitLemmas

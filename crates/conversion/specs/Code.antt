@@ -1,5 +1,5 @@
 -- What functions of this crate give on their way.
-use Rattle.std.specs.Prelude.{◌≡◌, ◌≢◌, ℕ, List, [], ◌∷◌, Option, Some, None, option_and_then, IfSome, map, if◌then◌else◌}
+use Rattle.std.specs.Prelude.{◌≡◌, ◌≢◌, ℕ, List, [], ◌∷◌, Option, Some, None, option_and_then, IfSome, map, All, if◌then◌else◌}
 use Rattle.serde_json.specs.View.{view}
 use Rattle.serde_json.specs.declared.value.Value.{Value}
 use Rattle.std.specs.Str.{bytes_eq}
@@ -79,3 +79,7 @@ IsRowTaken id (Some value) old new = IsChangedAt id (Some value) old new
 abbrev pub IsTextsOf : List Value → Option (List (List ℕ)) → Type 0
 IsTextsOf values None = (texts : List (List ℕ)) → map view values ≢ map string texts
 IsTextsOf values (Some texts) = map view values ≡ map string texts
+
+-- each pair is of a row
+abbrev pub AreNamed : List FieldRow → List FieldPair → Type 0
+AreNamed rows pairs = All (λ p. ¬ All (λ row. row.id ≢ p.id) rows) pairs

@@ -3,6 +3,7 @@
 
 mod decimal;
 mod fault;
+mod fitting;
 mod law;
 mod mode;
 mod reach;
@@ -12,6 +13,7 @@ mod value;
 mod write;
 
 pub use fault::{ReadCause, ReadFault};
+pub use fitting::fits;
 pub use law::{fields_are_shown_as_one, there_and_back, tree_has_one_answer};
 pub use mode::Mode;
 pub use read::read_fields;
