@@ -14,7 +14,6 @@ ok_from_iff : {T E : Type 0} (r : Result T E) (P : Type 0) (v : T) → OkIff r P
 ok_from_iff (Ok x) P v h p = ap Ok h.1
 ok_from_iff (Err e) P v h p = absurd (h p)
 
-
 read_negative : {E : Type 0} (n : ℕ) (r : Result ℤ E) → IsWhole (negsuc n) → ParsesSigned w64 10 (45 ∷ decimal (suc n)) r → r ≡ Ok (negsuc n)
 read_negative n r whole h =
     let small : suc n < 2 ^ 64 = omega (arith, ints) in

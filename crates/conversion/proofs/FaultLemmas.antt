@@ -30,11 +30,11 @@ no_last (x ∷ xs) = ap (λ ys. x ∷ ys) (no_last xs)
 one_block : (tree : Data) (path upto other : Names) → IsBlocked tree path upto → IsBlocked tree path other → upto ≡ other
 one_block tree path upto other h k = elim (parted upto h.rest other k.rest (sym h.parts ∙ k.parts)) [
   | inl r ↦
-    let none : r.0 ≡ [] = blocked_or_empty tree upto r.0 h.there k.there h.stands h.not_object (subst (λ p. Stands tree p k.there) r.1 k.stands) in
-    sym (r.1 ∙ ap (λ x. upto ++ x) none ∙ no_last upto)
+      let none : r.0 ≡ [] = blocked_or_empty tree upto r.0 h.there k.there h.stands h.not_object (subst (λ p. Stands tree p k.there) r.1 k.stands) in
+      sym (r.1 ∙ ap (λ x. upto ++ x) none ∙ no_last upto)
   | inr r ↦
-    let none : r.0 ∷ r.1 ≡ [] = blocked_or_empty tree other (r.0 ∷ r.1) k.there h.there k.stands k.not_object (subst (λ p. Stands tree p h.there) r.2 h.stands) in
-    absurd cc
+      let none : r.0 ∷ r.1 ≡ [] = blocked_or_empty tree other (r.0 ∷ r.1) k.there h.there k.stands k.not_object (subst (λ p. Stands tree p h.there) r.2 h.stands) in
+      absurd cc
 ]
 
 fault_at_row : (tree : Data) (row : FieldRow) (path other : Names) (cause why : ReadCause) → IsFault tree row path cause → IsFault tree row other why → (path ≡ other) × (cause ≡ why)

@@ -45,12 +45,12 @@ placed_keeps [] q json old new there h parted k = absurd (parted.1 (q, refl))
 placed_keeps (name ∷ path) [] json old new there h parted k = absurd (parted.0 (name ∷ path, refl))
 placed_keeps (name ∷ path) (other ∷ q) json old new there h parted k = elim (same_name other name) [
   | inl same ↦
-    let below : ArePartedPaths path q = (
-      λ t. parted.0 (t.0, ap₂ (λ x xs. x ∷ xs) (sym same) t.1),
-      λ t. parted.1 (t.0, ap₂ (λ x xs. x ∷ xs) same t.1),
-    ) in
-    let found : get_in name old ≡ Some k.2.0 = at_name name old k.0 k.2.0 k.1 (subst (λ n. get n k.0 ≡ Some k.2.0) same k.2.1) in
-    (h.3, read other new h.0 (Some h.3) h.1 (subst (λ n. get_member n h.0 ≡ Some h.3) (sym same) h.4), placed_keeps path q json (get_in name old) h.3 there h.5 below (k.2.0, found, k.2.2))
+      let below : ArePartedPaths path q = (
+        λ t. parted.0 (t.0, ap₂ (λ x xs. x ∷ xs) (sym same) t.1),
+        λ t. parted.1 (t.0, ap₂ (λ x xs. x ∷ xs) same t.1),
+      ) in
+      let found : get_in name old ≡ Some k.2.0 = at_name name old k.0 k.2.0 k.1 (subst (λ n. get n k.0 ≡ Some k.2.0) same k.2.1) in
+      (h.3, read other new h.0 (Some h.3) h.1 (subst (λ n. get_member n h.0 ≡ Some h.3) (sym same) h.4), placed_keeps path q json (get_in name old) h.3 there h.5 below (k.2.0, found, k.2.2))
   | inr apart ↦ (k.2.0, read other new h.0 (Some k.2.0) h.1 (h.2 other apart ∙ at_name other old k.0 k.2.0 k.1 k.2.1), k.2.2)
 ]
 
@@ -65,17 +65,17 @@ placed_only (name ∷ path) (other ∷ q) json old new there h k =
     let at_other : get_member other h.0 ≡ Some k.0 = subst (λ t. get other t ≡ Some k.0) h.1 k.1 in
     elim (same_name other name) [
       | inl same ↦
-        let inner : k.0 ≡ h.3 = one_member (get_member name h.0) k.0 h.3 (subst (λ n. get_member n h.0 ≡ Some k.0) same at_other) h.4 in
-        elim (placed_only path q json (get_in name old) h.3 there h.5 (subst (λ t. Stands t q there) inner k.2)) [
-          | inl r ↦ inl (r.0, ap₂ (λ x xs. x ∷ xs) (sym same) r.1)
-          | inr (inl r) ↦ inr (inl (r.0, ap₂ (λ x xs. x ∷ xs) same r.1, r.2))
-          | inr (inr r) ↦
-            let w = within_tree name old r.0 r.1 in
-            inr (inr (w.0, w.1, (r.0, subst (λ n. get n w.0 ≡ Some r.0) (sym same) w.2, r.2)))
-        ]
+          let inner : k.0 ≡ h.3 = one_member (get_member name h.0) k.0 h.3 (subst (λ n. get_member n h.0 ≡ Some k.0) same at_other) h.4 in
+          elim (placed_only path q json (get_in name old) h.3 there h.5 (subst (λ t. Stands t q there) inner k.2)) [
+            | inl r ↦ inl (r.0, ap₂ (λ x xs. x ∷ xs) (sym same) r.1)
+            | inr (inl r) ↦ inr (inl (r.0, ap₂ (λ x xs. x ∷ xs) same r.1, r.2))
+            | inr (inr r) ↦
+                let w = within_tree name old r.0 r.1 in
+                inr (inr (w.0, w.1, (r.0, subst (λ n. get n w.0 ≡ Some r.0) (sym same) w.2, r.2)))
+          ]
       | inr apart ↦
-        let w = within_tree other old k.0 (sym (h.2 other apart) ∙ at_other) in
-        inr (inr (w.0, w.1, (k.0, w.2, k.2)))
+          let w = within_tree other old k.0 (sym (h.2 other apart) ∙ at_other) in
+          inr (inr (w.0, w.1, (k.0, w.2, k.2)))
     ]
 
 leaf_alone : (json : Data) (rest : Names) (there : Data) → IsLeaf json → Stands json rest there → rest ≡ []
@@ -90,9 +90,9 @@ pub placed_least : (path q : Names) (json : Data) (old : Option Data) (new there
 placed_least path q json old new there leaf h k = elim (placed_only path q json old new there h k) [
   | inl r ↦ inl r
   | inr (inl r) ↦
-    let none : r.0 ≡ [] = leaf_alone json r.0 there leaf r.2 in
-    let same : q ≡ path = r.1 ∙ ap (λ x. path ++ x) none ∙ no_last path in
-    inl ([], sym same ∙ sym (no_last q))
+      let none : r.0 ≡ [] = leaf_alone json r.0 there leaf r.2 in
+      let same : q ≡ path = r.1 ∙ ap (λ x. path ++ x) none ∙ no_last path in
+      inl ([], sym same ∙ sym (no_last q))
   | inr (inr r) ↦ inr r
 ]
 

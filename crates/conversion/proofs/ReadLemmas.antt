@@ -102,12 +102,12 @@ pub reads_more : (mode : Mode) (rows : List FieldRow) (tree : Data) (old new : L
 reads_more mode rows tree old new row o h apart up is taken = record {
   map = up;
   each = All-push (λ r. IsRead mode tree r (value_at new r.id)) rows row (each_kept mode tree old new row.id rows (λ other not_row. taken_others o row.id old new other not_row taken) apart h.each)
-  (subst (IsRead mode tree row) (sym (taken_here o row.id old new (h.only row.id apart) taken)) is);
+      (subst (IsRead mode tree row) (sym (taken_here o row.id old new (h.only row.id apart) taken)) is);
   only = λ id none.
-    let all = recursion_from_All (λ (r : FieldRow). r.id ≢ id) (rows ++ row ∷ []) none in
-    let front : All (λ (r : FieldRow). r.id ≢ id) rows = All-from_recursion (λ (r : FieldRow). r.id ≢ id) rows (all_front (λ r. r.id ≢ id) rows (row ∷ []) all) in
-    let not_row : row.id ≢ id = at_middle (λ r. r.id ≢ id) rows row [] all in
-    taken_others o row.id old new id (λ e. not_row (sym e)) taken ∙ h.only id front;
+      let all = recursion_from_All (λ (r : FieldRow). r.id ≢ id) (rows ++ row ∷ []) none in
+      let front : All (λ (r : FieldRow). r.id ≢ id) rows = All-from_recursion (λ (r : FieldRow). r.id ≢ id) rows (all_front (λ r. r.id ≢ id) rows (row ∷ []) all) in
+      let not_row : row.id ≢ id = at_middle (λ r. r.id ≢ id) rows row [] all in
+      taken_others o row.id old new id (λ e. not_row (sym e)) taken ∙ h.only id front;
 }
 
 pub reads_none : (mode : Mode) (tree : Data) (held : List FieldPair) → held ≡ [] → Reads mode [] tree held

@@ -41,8 +41,8 @@ no_way rows held i d apart below none k x within is some =
     let there : get_or rows k d ≡ x = get_or_default rows k d x within ∙ is in
     elim (same_or_apart rows i k d apart below within) [
       | inl same ↦
-        let row : get_or rows i d ≡ x = ap (λ n. get_or rows n d) same ∙ there in
-        absurd (none_not_some (value_at held (get_or rows i d).id) (value_at held x.id) (ap (λ (r : FieldRow). value_at held r.id) row) none some)
+          let row : get_or rows i d ≡ x = ap (λ n. get_or rows n d) same ∙ there in
+          absurd (none_not_some (value_at held (get_or rows i d).id) (value_at held x.id) (ap (λ (r : FieldRow). value_at held r.id) row) none some)
       | inr parted ↦ subst (λ (r : FieldRow). ArePartedPaths (get_or rows i d).path r.path) there parted
     ]
 
@@ -91,8 +91,8 @@ shown_absent : (rows : List FieldRow) (held : List FieldPair) (tree : Data) → 
     → (get_or rows i d).path ≢ [] → value_at held (get_or rows i d).id ≡ None → IsAbsent tree (get_or rows i d).path
 shown_absent rows held tree shows i d apart below some none = elim (stands_or_ends tree (get_or rows i d).path) [
   | inl r ↦
-    let way = shows.least (get_or rows i d).path r.0 some r.1 in
-    absurd ((no_way rows held i d apart below none way.0 way.1 way.2 way.3 way.4.0).1 way.4.1)
+      let way = shows.least (get_or rows i d).path r.0 some r.1 in
+      absurd ((no_way rows held i d apart below none way.0 way.1 way.2 way.3 way.4.0).1 way.4.1)
   | inr r ↦ ends_absent rows held tree shows i d apart below none r.0 r.1 r.2 r.3 r.4 r.5 r.6
 ]
 

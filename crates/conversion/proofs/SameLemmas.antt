@@ -36,14 +36,13 @@ not_both o x h k = cc
 
 members_agree : (ms ns : Members) → AgreesBelow (object ms) (object ns) → MembersAgree ms ns
 members_agree ms ns h name inner found =
-    let at = h (name ∷ []) inner (inner, found, refl) in
-    (
+    let at = h (name ∷ []) inner (inner, found, refl) in (
       at.1.0,
       at.1.1,
       λ path there stands.
-      let deep = h (name ∷ path) there (inner, found, stands) in
-      let same : deep.1.0 ≡ at.1.0 = one_found (get_member name ns) deep.1.0 at.1.0 deep.1.1 at.1.1 in
-      (deep.0, subst (λ t. Stands t path deep.0) same deep.1.2, deep.2),
+          let deep = h (name ∷ path) there (inner, found, stands) in
+          let same : deep.1.0 ≡ at.1.0 = one_found (get_member name ns) deep.1.0 at.1.0 deep.1.1 at.1.1 in
+          (deep.0, subst (λ t. Stands t path deep.0) same deep.1.2, deep.2),
     )
 
 here : (k : List ℕ) (d : Data) (ms : Members) → get_member k (member k d ms) ≡ Some d
@@ -96,6 +95,7 @@ object_same ms b h more = let at = h [] (object ms) refl in elim at.2 [
 
 mutual
   unfolding IsStrictlySortedBy
+
   pub same_tree : (a b : Data) → IsInOrder a → IsInOrder b → AgreesBelow a b → AgreesBelow b a → a ≡ b
   same_tree null b up vp h g = leaf_same null b (λ o. let e = o.1 in cc) h
   same_tree (boolean x) b up vp h g = leaf_same (boolean x) b (λ o. let e = o.1 in cc) h
@@ -103,8 +103,8 @@ mutual
   same_tree (string s) b up vp h g = leaf_same (string s) b (λ o. let e = o.1 in cc) h
   same_tree (array ds) b up vp h g = leaf_same (array ds) b (λ o. let e = o.1 in cc) h
   same_tree (object ms) b up vp h g = object_same ms b h (λ ns is.
-    let wp : IsInOrder (object ns) = subst IsInOrder is vp in
-    ap object (same_members ms ns up.0 wp.0 up.1 wp.1 (members_agree ms ns (subst (AgreesBelow (object ms)) is h)) (members_agree ns ms (subst (λ t. AgreesBelow t (object ms)) is g))))
+      let wp : IsInOrder (object ns) = subst IsInOrder is vp in
+      ap object (same_members ms ns up.0 wp.0 up.1 wp.1 (members_agree ms ns (subst (AgreesBelow (object ms)) is h)) (members_agree ns ms (subst (λ t. AgreesBelow t (object ms)) is g))))
 
   pub same_members : (ms ns : Members) → Rises (names_of ms) → Rises (names_of ns) → AreInOrder ms → AreInOrder ns → MembersAgree ms ns → MembersAgree ns ms → ms ≡ ns
   same_members no_members no_members up vp a b h g = refl

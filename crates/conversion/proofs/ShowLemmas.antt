@@ -64,11 +64,11 @@ shows_held rows held row v old new shows apart some is typed h =
       object = placed_object row.path h.0 (Some old) new some h.2;
       each = All-push (λ other. IfSome (value_at held other.id) (IsHeld new other)) rows row (all_kept rows held row h.0 old new h.2 apart shows.each) here;
       least = λ path there not_empty stands.
-        (Any-push_iff (λ other. IsSome (value_at held other.id) × LeadsThrough other.path path) rows row).1
-        (elim (placed_least row.path path h.0 (Some old) new there leaf h.2 stands) [
-          | inl through ↦ inr (is_some, through)
-          | inr was ↦ inl (shows.least path there not_empty (let same : was.0 ≡ old = (let e = was.1 in cc) in subst (λ t. Stands t path there) same was.2))
-        ]);
+          (Any-push_iff (λ other. IsSome (value_at held other.id) × LeadsThrough other.path path) rows row).1
+          (elim (placed_least row.path path h.0 (Some old) new there leaf h.2 stands) [
+            | inl through ↦ inr (is_some, through)
+            | inr was ↦ inl (shows.least path there not_empty (let same : was.0 ≡ old = (let e = was.1 in cc) in subst (λ t. Stands t path there) same was.2))
+          ]);
       order = h.3 shows.order (leaf_in_order h.0 leaf);
     }
 

@@ -80,15 +80,15 @@ blocked_absent tree path upto h k =
     elim (parted upto h.rest k.front (k.name ∷ k.rest) (sym h.parts ∙ k.parts)) [
       -- the missing member is below what blocks
       | inl r ↦
-        let none : r.0 ≡ [] = blocked_or_empty tree upto r.0 h.there k.within h.stands h.not_object (subst (λ p. Stands tree p k.within) r.1 k.stands) in
-        let same_front : k.front ≡ upto = r.1 ∙ ap (λ x. upto ++ x) none ∙ no_middle upto in
-        let same : k.within ≡ h.there = stands_one tree upto k.within h.there (subst (λ p. Stands tree p k.within) same_front k.stands) h.stands in
-        elim k.object [ inl empty ↦ h.some (sym same_front ∙ empty) | inr is ↦ h.not_object (subst IsObject same is) ]
+          let none : r.0 ≡ [] = blocked_or_empty tree upto r.0 h.there k.within h.stands h.not_object (subst (λ p. Stands tree p k.within) r.1 k.stands) in
+          let same_front : k.front ≡ upto = r.1 ∙ ap (λ x. upto ++ x) none ∙ no_middle upto in
+          let same : k.within ≡ h.there = stands_one tree upto k.within h.there (subst (λ p. Stands tree p k.within) same_front k.stands) h.stands in
+          elim k.object [ inl empty ↦ h.some (sym same_front ∙ empty) | inr is ↦ h.not_object (subst IsObject same is) ]
       -- what blocks is below the missing member
       | inr r ↦
-        let name : r.0 ≡ k.name = (let e = r.3 in cc) in
-        let at : IsAbsent tree upto = record { front = k.front; name = r.0; rest = r.1; parts = r.2; within = k.within; stands = k.stands; object = k.object; missing = subst (λ n. (get n k.within ≡ None) ⊎ (get n k.within ≡ Some null)) (sym name) k.missing } in
-        h.not_null (absent_or_null tree upto h.there h.stands at)
+          let name : r.0 ≡ k.name = (let e = r.3 in cc) in
+          let at : IsAbsent tree upto = record { front = k.front; name = r.0; rest = r.1; parts = r.2; within = k.within; stands = k.stands; object = k.object; missing = subst (λ n. (get n k.within ≡ None) ⊎ (get n k.within ≡ Some null)) (sym name) k.missing } in
+          h.not_null (absent_or_null tree upto h.there h.stands at)
     ]
 
 -- a path stands in the tree whole, or up to a member that isn't there

@@ -9,6 +9,8 @@ mod mode;
 mod reach;
 mod read;
 mod show;
+#[cfg(test)]
+mod tests;
 mod value;
 mod write;
 

@@ -87,11 +87,7 @@ fn shown_rows(alloc: Global, rows: &[FieldRow], fields: &Fields) -> Result<Value
 
 /// The object that shows the fields in the table's version: each held field at its path, in its form, and nothing else.
 /// Read again in mode `Stored`, it gives the same fields.
-pub fn show_fields(
-    alloc: Global,
-    table: &VersionTable,
-    fields: &Fields,
-) -> Result<Value, Memory>
+pub fn show_fields(alloc: Global, table: &VersionTable, fields: &Fields) -> Result<Value, Memory>
     requires lawful { AreLawful table.now.rows }
     requires of { IsOf table.now.rows fields.now }
     ensures shown { IfOk result (λ v. Shows table.now.rows fields.now (view v)) }

@@ -1,4 +1,4 @@
-ghost use Rattle.std.specs.Prelude.{◌≡◌, ◌-◌, [], ◌∷◌, ◌++◌, length, OnOk, OnErr};
+ghost use Rattle.std.specs.Prelude.{◌≡◌, ◌↔◌, IsTrue, ◌-◌, [], ◌∷◌, ◌++◌, length, OnOk, OnErr};
 ghost use Rattle.std.specs.Option.{ForSome};
 ghost use Rattle.std.specs.List.{slice_get};
 ghost use Rattle.fields.specs.Order.{IsBelow};
@@ -9,6 +9,7 @@ use crate::value::{FieldType, FieldValue};
 use basis::{Memory, Sequence};
 use minor_version::Text;
 use std::alloc::Global;
+use std::cmp::Ordering;
 use std::marker::Model;
 
 /// How one version of a resource spells one field, at a release.
@@ -50,6 +51,16 @@ impl FieldRows {
         FieldRows {
             rows: Sequence::new(),
         }
+    }
+
+    /// Whether a row of the id may be appended: the id is above the last row's.
+    pub fn can_push(&self, id: &[u8]) -> bool
+        ensures { IsTrue result ↔ ForSome (slice_get self.now (length self.now - 1)) (λ last. IsBelow last.id id.now) }
+    {
+        let Some(last) = self.items().last() else {
+            return true;
+        };
+        matches!(last.id.bytes().cmp(id), Ordering::Less)
     }
 
     /// Appends a row, whose id is above the last one's. Where memory runs out, the row is dropped and the list stays.

@@ -72,6 +72,7 @@ fn rows_rise(rt: HostRuntime) -> Result<(), Fail> {
     };
     rows.push(alloc, row)?;
     assert_eq!(rt; rows.items().len(), 1);
+    assert!(rt; rows.can_push(b"sizes") && !rows.can_push(b"size"));
     assert!(rt; rows.are_lawful());
     Ok(())
 }

@@ -16,9 +16,9 @@ pub returns-then-is_unnamed : goal.returns-then-is_unnamed
 returns-then-is_unnamed c = (
   λ h. absurd (true_not_false false h refl),
   λ all.
-  let pair = c.pair-item.result in
-  let others : All (λ (row : FieldRow). row.id ≢ pair.id) c.args.rows.now = subst (λ (t : List ℕ). All (λ (row : FieldRow). row.id ≢ t) c.args.rows.now) c.bytes.ensures (c.is_unnamed.ensures.0 c.if-is_unnamed.true) in
-  absurd (subst (IsNamed c.args.rows.now) (sym c.pair-item.is) (All-get_or (IsNamed c.args.rows.now) c.args.pairs.now c.loop-pair.pair-index pair (omega arith) all) others),
+      let pair = c.pair-item.result in
+      let others : All (λ (row : FieldRow). row.id ≢ pair.id) c.args.rows.now = subst (λ (t : List ℕ). All (λ (row : FieldRow). row.id ≢ t) c.args.rows.now) c.bytes.ensures (c.is_unnamed.ensures.0 c.if-is_unnamed.true) in
+      absurd (subst (IsNamed c.args.rows.now) (sym c.pair-item.is) (All-get_or (IsNamed c.args.rows.now) c.args.pairs.now c.loop-pair.pair-index pair (omega arith) all) others),
 )
 
 pub loop-pair-preserved : goal.loop-pair-preserved

@@ -34,8 +34,7 @@ returns-then-is_null-clause-there c =
 
 pub loop-i-preserved : goal.loop-i-preserved
 loop-i-preserved c =
-    let found = found_some c.get.result c.index-path-i.result (view c.loop-i.current.now) c.in-Some.inner (c.get.ensures ∙ ap (λ n. get n (view c.loop-i.current.now)) c.as_str.ensures) c.in-Some.is in
-    (
+    let found = found_some c.get.result c.index-path-i.result (view c.loop-i.current.now) c.in-Some.inner (c.get.ensures ∙ ap (λ n. get n (view c.loop-i.current.now)) c.as_str.ensures) c.in-Some.is in (
       stands_more (view c.args.json.now) c.args.path.now c.loop-i.i c.index-path-i.result (view c.loop-i.current.now) (view c.in-Some.inner.now) c.loop-i.invariant.0 (omega arith) c.index-path-i.is found,
       λ _. null_not (view c.in-Some.inner.now) (sym c.is_null.ensures ∙ c.if-is_null.false),
     )
