@@ -1,16 +1,15 @@
 -- A tree has one first fault, and conversion goes there and back.
-use Rattle.std.proofs.Common.{◌≡◌, ◌≢◌, ◌⊎◌, inl, inr, ℕ, ◌<◌, List, [], ◌∷◌, ◌++◌, length, map, Option, Some, None, IfSome, All, refl, sym, ◌∙◌, ap, ap₂, subst}
+use Rattle.std.proofs.Common.{◌≡◌, ◌≢◌, inl, inr, ℕ, List, [], ◌∷◌, ◌++◌, map, Option, IfSome, refl, sym, ◌∙◌, ap, subst}
 use Rattle.std.specs.List.{AllByRecursion}
 use Rattle.std.proofs.lemmas.List.Elements.{recursion_from_All, All-from_recursion}
 use Rattle.fields.specs.Map.{IsMap, value_at}
 use Rattle.fields.specs.Table.{type_of, AreLawful}
 use Rattle.fields.specs.declared.map.FieldPair.{FieldPair}
 use Rattle.fields.specs.declared.table.FieldRow.{FieldRow}
-use Rattle.fields.specs.declared.value.FieldType.{FieldType}
 use Rattle.fields.specs.declared.value.FieldValue.{FieldValue}
-use Rattle.serde_json.specs.Data.{Data, null}
-use Rattle.conversion.specs.Trees.{Names, Stands, IsObject, IsBlocked}
-use Rattle.conversion.specs.Reading.{IsRead, Reads, IsMisspelled, IsFault, IsFirstFault, cause_of}
+use Rattle.serde_json.specs.Data.{Data}
+use Rattle.conversion.specs.Trees.{Names, Stands, IsBlocked}
+use Rattle.conversion.specs.Reading.{IsRead, IsFault}
 use Rattle.conversion.specs.Showing.{IsOf, Shows}
 use Rattle.conversion.specs.Laws.{HasOneFault, SpellTheSame, GoesThereAndBack, Kind, kind_of}
 use Rattle.conversion.specs.declared.mode.Mode.{Mode}

@@ -1,9 +1,9 @@
 -- Nothing else is held where each pair is of a row.
-use Rattle.std.proofs.Common.{◌≡◌, ◌≢◌, ◌⊎◌, inl, inr, ℕ, Bool, true, false, List, [], ◌∷◌, Option, Some, None, All, refl, sym, ◌∙◌, ap, subst, bytes_eq}
+use Rattle.std.proofs.Common.{◌≡◌, ◌≢◌, ℕ, Bool, true, false, List, [], ◌∷◌, Option, Some, None, All, refl, sym, ◌∙◌, subst, bytes_eq}
 use Rattle.std.specs.List.{AllByRecursion}
 use Rattle.std.proofs.lemmas.List.Elements.{recursion_from_All, All-from_recursion}
 use Rattle.std.proofs.lemmas.Slice.Eq.{bytes_eq-Decides}
-use Rattle.fields.specs.Map.{IsMap, value_at}
+use Rattle.fields.specs.Map.{value_at}
 use Rattle.fields.specs.declared.map.FieldPair.{FieldPair}
 use Rattle.fields.specs.declared.table.FieldRow.{FieldRow}
 use Rattle.fields.proofs.MapLemmas.{value_at-here, value_at-other}

@@ -1,5 +1,5 @@
 -- A tree reads as at most one map, and one that is read has no fault.
-use Rattle.std.proofs.Common.{◌≡◌, ◌≢◌, ◌⊎◌, inl, inr, ℕ, suc, ◌<◌, Bool, true, false, cond, List, [], ◌∷◌, ◌++◌, length, get_or, take, drop, map, Option, Some, None, IfSome, All, Less, nat_cmp, arith, refl, sym, ◌∙◌, ap, subst, bytes_eq}
+use Rattle.std.proofs.Common.{◌≡◌, ◌≢◌, inl, inr, ℕ, suc, ◌<◌, Bool, true, false, cond, List, [], ◌∷◌, ◌++◌, length, get_or, take, drop, map, Option, Some, None, IfSome, All, nat_cmp, arith, refl, sym, ◌∙◌, ap, subst, bytes_eq}
 use Rattle.std.specs.List.{AllByRecursion}
 use Rattle.std.specs.Cmp.Lexicographic.{slice_cmp}
 use Rattle.std.proofs.lemmas.List.{length-take-le, get_or-take, get_or-map}
@@ -7,16 +7,16 @@ use Rattle.std.proofs.lemmas.List.Elements.{recursion_from_All, All-from_recursi
 use Rattle.std.proofs.lemmas.Map.Keys.{Less-from_sorted}
 use Rattle.std.proofs.lemmas.Option.{slice_get_read}
 use Rattle.std.proofs.lemmas.Slice.Eq.{bytes_eq-Decides}
-use Rattle.fields.specs.Map.{IsMap, value_at, AreAlike}
+use Rattle.fields.specs.Map.{IsMap, value_at}
 use Rattle.fields.specs.declared.map.FieldPair.{FieldPair}
 use Rattle.fields.specs.declared.table.FieldRow.{FieldRow}
 use Rattle.fields.specs.declared.value.FieldValue.{FieldValue}
 use Rattle.fields.specs.Table.{type_of, IdsRise, IsDefaultOf, IsLawfulRow, AreLawful}
 use Rattle.fields.proofs.MapLemmas.{one_list, split_at, no_pairs, below_differs}
-use Rattle.serde_json.specs.Data.{Data, null}
-use Rattle.conversion.specs.Trees.{Names, Stands, IsObject, IsAbsent, IsBlocked}
+use Rattle.serde_json.specs.Data.{Data}
+use Rattle.conversion.specs.Trees.{Names, IsAbsent}
 use Rattle.conversion.specs.Writing.{Spells}
-use Rattle.conversion.specs.Reading.{default_in, IsHeld, IsRead, Reads, IsMisspelled, IsFault, IsFirstFault, IsReadFault}
+use Rattle.conversion.specs.Reading.{default_in, IsHeld, IsRead, Reads, IsFault, IsReadFault}
 use Rattle.conversion.specs.Showing.{IsOf}
 use Rattle.conversion.specs.Code.{IsFaultOf, IsRowTaken}
 use Rattle.conversion.specs.declared.mode.Mode.TheVariants.{Body, Stored}

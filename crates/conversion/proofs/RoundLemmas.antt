@@ -1,18 +1,18 @@
 -- What is shown reads again as the same map.
-use Rattle.std.proofs.Common.{◌≡◌, ◌≢◌, ◌⊎◌, inl, inr, ℕ, ◌<◌, ◌≤◌, List, [], ◌∷◌, ◌++◌, length, get_or, Option, Some, None, All, IfSome, IsSome, refl, sym, ◌∙◌, ap, subst, arith}
-use Rattle.std.specs.List.{AllPairs, Any}
+use Rattle.std.proofs.Common.{◌≡◌, ◌≢◌, ◌⊎◌, inl, inr, ℕ, ◌<◌, List, [], ◌∷◌, ◌++◌, length, get_or, Option, Some, None, IfSome, IsSome, refl, sym, ◌∙◌, ap, subst, arith}
+use Rattle.std.specs.List.{AllPairs}
 use Rattle.std.proofs.lemmas.Bool.{cases_lt}
 use Rattle.std.proofs.lemmas.List.{get_or_default}
 use Rattle.fields.specs.Map.{IsMap, value_at}
-use Rattle.fields.specs.Table.{LeadsThrough, AreApart, AreLawful, IsLawfulRow}
+use Rattle.fields.specs.Table.{LeadsThrough, AreApart, AreLawful}
 use Rattle.fields.specs.declared.map.FieldPair.{FieldPair}
 use Rattle.fields.specs.declared.table.FieldRow.{FieldRow}
 use Rattle.fields.specs.declared.value.FieldValue.{FieldValue}
-use Rattle.serde_json.specs.Data.{Data, null}
+use Rattle.serde_json.specs.Data.{Data}
 use Rattle.serde_json.specs.Find.{get}
 use Rattle.conversion.specs.Trees.{Names, Stands, IsObject, IsAbsent}
 use Rattle.conversion.specs.Reading.{IsHeld, IsRead, Reads}
-use Rattle.conversion.specs.Showing.{IsOf, Shows, LeadsToHeld}
+use Rattle.conversion.specs.Showing.{IsOf, Shows}
 use Rattle.conversion.specs.declared.mode.Mode.TheVariants.{Stored}
 use Rattle.conversion.proofs.TreeLemmas.{stands_one, stands_split, object_from_get, stands_or_ends}
 

@@ -1,19 +1,17 @@
 -- Trees in order that have the same at each path are one.
-use Rattle.std.proofs.Common.{◌≡◌, ◌≢◌, ◌⊎◌, inl, inr, ℕ, List, [], ◌∷◌, ◌++◌, Option, Some, None, All, IfSome, IsSome, Ordering, Less, Equal, Greater, nat_cmp, refl, sym, ◌∙◌, ap, subst}
+use Rattle.std.proofs.Common.{◌≡◌, ◌≢◌, ◌⊎◌, inl, inr, ℕ, List, [], ◌∷◌, ◌++◌, Option, Some, None, IfSome, IsSome, Ordering, Less, Equal, Greater, nat_cmp, refl, sym, ◌∙◌, ap, subst}
 use Rattle.std.specs.Cmp.Lexicographic.{slice_cmp}
 use Rattle.std.specs.List.Sorted.{IsStrictlySortedBy}
-use Rattle.std.specs.Ordering.{match_ordering}
 use Rattle.std.proofs.lemmas.Cmp.{nat_list_cmp_total, tied_itself}
 use Rattle.std.proofs.lemmas.Map.Lookups.{exact_bytes}
 use Rattle.fields.specs.Map.{value_at}
-use Rattle.fields.specs.Order.{IsBelow, Rises}
-use Rattle.fields.specs.Table.{LeadsThrough}
+use Rattle.fields.specs.Order.{Rises}
 use Rattle.fields.specs.declared.map.FieldPair.{FieldPair}
 use Rattle.fields.specs.declared.table.FieldRow.{FieldRow}
 use Rattle.fields.specs.declared.value.FieldValue.{FieldValue}
 use Rattle.fields.proofs.MapLemmas.{AllAbove, above_chain, flip, below_differs}
 use Rattle.serde_json.specs.Data.{Data, null, boolean, number, string, array, object, Members, no_members, member}
-use Rattle.serde_json.specs.Find.{get, get_member}
+use Rattle.serde_json.specs.Find.{get_member}
 use Rattle.conversion.specs.Trees.{Names, Stands, IsObject}
 use Rattle.conversion.specs.Reading.{IsHeld}
 use Rattle.conversion.specs.Showing.{Shows, IsInOrder, AreInOrder, names_of}

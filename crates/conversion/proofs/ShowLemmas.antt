@@ -1,6 +1,6 @@
 -- One more row is shown.
-use Rattle.std.proofs.Common.{◌≡◌, ◌≢◌, ◌⊎◌, inl, inr, ℕ, zero, suc, ◌<◌, ◌+◌, List, [], ◌∷◌, ◌++◌, length, get_or, take, Option, Some, None, All, IfSome, IsSome, refl, sym, ◌∙◌, ap, subst, arith}
-use Rattle.std.specs.List.{Any, AllPairs}
+use Rattle.std.proofs.Common.{◌≡◌, ◌≢◌, inl, inr, ℕ, ◌<◌, List, [], ◌∷◌, ◌++◌, length, get_or, take, Option, Some, None, All, IfSome, IsSome, refl, sym, ◌∙◌, subst, arith}
+use Rattle.std.specs.List.{AllPairs}
 use Rattle.std.proofs.lemmas.List.{get_or_default, get_or-take, length-take-le}
 use Rattle.std.proofs.lemmas.List.Elements.{All-push}
 use Rattle.basis.proofs.ElementLemmas.{Any-push_iff}
@@ -9,16 +9,14 @@ use Rattle.fields.specs.Table.{LeadsThrough, AreApart, type_of}
 use Rattle.fields.specs.declared.map.FieldPair.{FieldPair}
 use Rattle.fields.specs.declared.table.FieldRow.{FieldRow}
 use Rattle.fields.specs.declared.value.FieldValue.{FieldValue}
-use Rattle.serde_json.specs.Data.{Data, null, boolean, number, string, array, object, Members, no_members}
-use Rattle.conversion.specs.Trees.{Names, Stands, IsObject}
-use Rattle.conversion.specs.Writing.{IsWrittenIn, Spells}
+use Rattle.serde_json.specs.Data.{Data, null, boolean, number, string, array, object, no_members}
+use Rattle.conversion.specs.Trees.{Names, Stands}
 use Rattle.conversion.specs.Reading.{IsHeld}
-use Rattle.conversion.specs.Showing.{Shows, LeadsToHeld, IsInOrder}
+use Rattle.conversion.specs.Showing.{Shows, IsInOrder}
 use Rattle.conversion.specs.Code.{IsPlaced, IsRowShown}
 use Rattle.conversion.proofs.WritingLemmas.{IsLeaf, leaf_written}
 use Rattle.conversion.proofs.PlaceLemmas.{placed_here, placed_keeps, placed_least, placed_object}
 use Rattle.conversion.proofs.RoundLemmas.{ArePartedPaths}
-use Rattle.fields.specs.Order.{Rises}
 use Rattle.std.specs.List.Sorted.{IsStrictlySortedBy}
 
 no_names : (path : Names) (there : Data) → path ≢ [] → Stands (object no_members) path there → ⊥

@@ -1,19 +1,15 @@
 -- Each form can be undone.
-use Rattle.std.proofs.Common.{◌≡◌, ◌≢◌, ℕ, zero, suc, ◌<◌, ◌≤◌, ◌^◌, Bool, true, false, not, List, [], ◌∷◌, map, get_or, ℤ, pos, negsuc, refl, sym, ◌∙◌, ap, ap₂, subst, arith, decimal}
+use Rattle.std.proofs.Common.{◌≡◌, ◌≢◌, ℕ, zero, suc, ◌<◌, ◌^◌, Bool, true, false, not, List, [], ◌∷◌, map, get_or, ℤ, pos, negsuc, refl, sym, ◌∙◌, ap, ap₂, subst, arith, decimal}
 use Rattle.std.specs.Fmt.{signed_decimal}
-use Rattle.std.specs.Prelude.{FitsSigned}
-use Rattle.std.specs.Int.{w64}
 use Rattle.std.proofs.lemmas.Int.{ints}
 use Rattle.std.proofs.lemmas.Fmt.{decimal_injective, first_decimal, decimal_digit}
 use Rattle.fields.specs.Table.{type_of}
 use Rattle.fields.specs.declared.field.Form.{Form}
 use Rattle.fields.specs.declared.field.Form.TheVariants.{Same, Not, Decimal}
 use Rattle.fields.specs.declared.table.FieldRow.{FieldRow}
-use Rattle.fields.specs.declared.value.FieldType.{FieldType}
-use Rattle.fields.specs.declared.value.FieldType.TheVariants.{Bool as BoolType, Int as IntType, Text as TextType, TextList as ListType}
 use Rattle.fields.specs.declared.value.FieldValue.{FieldValue}
 use Rattle.fields.specs.declared.value.FieldValue.TheVariants.{Bool as Truth, Int, Text, List as Texts}
-use Rattle.serde_json.specs.Data.{Num, unsigned, negative, float, Data, null, boolean, number, string, array, object, Items, no_items, item}
+use Rattle.serde_json.specs.Data.{Data, null, boolean, number, string, array, object}
 use Rattle.serde_json.specs.Find.{of_integer}
 use Rattle.serde_json.specs.View.{items_of}
 use Rattle.conversion.specs.Trees.{IsObject}

@@ -1,11 +1,10 @@
 -- The object that shows what a map holds: the least one in which each held field stands at its path.
-use Rattle.std.specs.Prelude.{◌≡◌, ◌≢◌, ◌⊎◌, ℕ, List, [], ◌∷◌, Option, Some, None, All, Any, IfSome, IsSome}
+use Rattle.std.specs.Prelude.{◌≡◌, ◌≢◌, ℕ, List, [], ◌∷◌, None, All, Any, IfSome, IsSome}
 use Rattle.fields.specs.Map.{value_at}
 use Rattle.fields.specs.Order.{Rises}
 use Rattle.fields.specs.Table.{type_of, LeadsThrough}
 use Rattle.fields.specs.declared.map.FieldPair.{FieldPair}
 use Rattle.fields.specs.declared.table.FieldRow.{FieldRow}
-use Rattle.fields.specs.declared.value.FieldValue.{FieldValue}
 use Rattle.serde_json.specs.Data.{Data, null, boolean, number, string, array, object, Members, no_members, member}
 use Rattle.conversion.specs.Trees.{Names, Stands, IsObject}
 use Rattle.conversion.specs.Reading.{IsHeld}

@@ -1,5 +1,5 @@
 -- What stands at a path of a JSON tree.
-use Rattle.std.specs.Prelude.{◌≡◌, ◌≢◌, ◌⊎◌, ℕ, List, [], ◌∷◌, ◌++◌, Option, Some, None}
+use Rattle.std.specs.Prelude.{◌≡◌, ◌≢◌, ◌⊎◌, ℕ, List, [], ◌∷◌, ◌++◌, Some, None}
 use Rattle.serde_json.specs.Data.{Data, null, object, Members}
 use Rattle.serde_json.specs.Find.{get}
 

@@ -1,5 +1,5 @@
 -- How values of fields are written as JSON, in each form.
-use Rattle.std.specs.Prelude.{◌≡◌, ℕ, List, map, not, FitsSigned, ℤ}
+use Rattle.std.specs.Prelude.{◌≡◌, map, not, FitsSigned, ℤ}
 use Rattle.std.specs.Int.{w64}
 use Rattle.std.specs.Fmt.{signed_decimal}
 use Rattle.fields.specs.Table.{type_of}

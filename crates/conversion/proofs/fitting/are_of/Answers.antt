@@ -1,5 +1,4 @@
-use Rattle.std.proofs.Common.{◌≡◌, List, sym, subst}
-use Rattle.fields.specs.declared.map.FieldPair.{FieldPair}
+use Rattle.std.proofs.Common.{sym, subst}
 use Rattle.conversion.specs.Code.{AreNamed}
 use Rattle.conversion.proofs.FitLemmas.{only_named, named_only}
 use Rattle.conversion.proofs.fitting.are_of.Goals as goal

@@ -1,4 +1,4 @@
-use Rattle.std.proofs.Common.{◌≡◌, subst}
+use Rattle.std.proofs.Common.{subst}
 use Rattle.fields.specs.Map.{IsMap}
 use Rattle.conversion.proofs.FaultLemmas.{same_of, goes_back}
 use Rattle.conversion.proofs.law.there_and_back.Goals as goal

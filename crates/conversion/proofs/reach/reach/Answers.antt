@@ -1,8 +1,6 @@
-use Rattle.std.proofs.Common.{◌≡◌, ◌≢◌, ◌⊎◌, inl, inr, ℕ, ◌<◌, Bool, true, false, Option, Some, None, is_some, option_map, Bor, sym, ◌∙◌, ap, subst, arith}
-use Rattle.serde_json.specs.Data.{Data, null}
-use Rattle.serde_json.specs.Find.{get, as_null, as_object}
+use Rattle.std.proofs.Common.{inl, inr, ◌<◌, Some, sym, ◌∙◌, ap, arith}
+use Rattle.serde_json.specs.Find.{get}
 use Rattle.serde_json.specs.View.{view}
-use Rattle.serde_json.specs.declared.value.Value.{Value}
 use Rattle.conversion.specs.Trees.{IsObject}
 use Rattle.conversion.proofs.ReachLemmas.{object_so, object_not, blocked_at, absent_at, stands_more, null_so, null_not, found_none, found_some}
 use Rattle.conversion.proofs.reach.reach.Goals as goal

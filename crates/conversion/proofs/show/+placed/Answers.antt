@@ -1,9 +1,8 @@
-use Rattle.std.proofs.Common.{◌≡◌, ℕ, ◌<◌, ◌≤◌, ◌-◌, List, ◌∷◌, length, take, drop, get_or, option_map, refl, sym, ◌∙◌, ap, subst, arith}
-use Rattle.serde_json.specs.Data.{Data, object, Members, put}
-use Rattle.serde_json.specs.Find.{get_member}
+use Rattle.std.proofs.Common.{◌≡◌, ◌<◌, ◌-◌, ◌∷◌, length, take, drop, option_map, sym, ◌∙◌, ap, subst, arith}
+use Rattle.serde_json.specs.Data.{put}
 use Rattle.serde_json.specs.View.{view, members_view}
 use Rattle.serde_json.proofs.Views.{view-Object}
-use Rattle.conversion.specs.Code.{IsPlaced, KeepsOrder, members_in, without}
+use Rattle.conversion.specs.Code.{IsPlaced, KeepsOrder}
 use Rattle.conversion.proofs.StepLemmas.{rest_of, path_parts, shorter, step_members, step_inner, placed_step, order_step}
 use Rattle.conversion.proofs.show.+placed.Goals as goal
 

@@ -1,4 +1,4 @@
-use Rattle.std.proofs.Common.{◌≡◌, List, Result, Ok, Err, IfOk, sym, subst}
+use Rattle.std.proofs.Common.{◌≡◌, List, Result, Ok, Err, IfOk, subst}
 use Rattle.fields.specs.Map.{IsMap}
 use Rattle.fields.specs.Table.{AreLawful}
 use Rattle.fields.specs.declared.map.FieldPair.{FieldPair}

@@ -1,8 +1,7 @@
-use Rattle.std.proofs.Common.{◌≡◌, List, Option, Some, option_map, Bor, Vec, Global, sym, ◌∙◌, ap, subst}
+use Rattle.std.proofs.Common.{List, option_map, Bor, Vec, Global, sym, ◌∙◌, ap}
 use Rattle.serde_json.specs.Data.{array}
 use Rattle.serde_json.specs.View.{view, items_view}
 use Rattle.serde_json.specs.declared.value.Value.{Value}
-use Rattle.conversion.specs.Code.{IsTextsOf}
 use Rattle.conversion.proofs.ValueLemmas.{array_so, none_listed}
 use Rattle.conversion.proofs.value.list_of.Goals as goal
 

@@ -1,4 +1,4 @@
-use Rattle.std.proofs.Common.{◌≡◌, arith}
+use Rattle.std.proofs.Common.{arith}
 use Rattle.conversion.proofs.ValueLemmas.{no_texts}
 use Rattle.conversion.proofs.value.texts_of.Goals as goal
 
