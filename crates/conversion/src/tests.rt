@@ -148,61 +148,32 @@ fn a_widget_goes_to_the_other_version(rt: HostRuntime) -> Result<(), Fail> {
     Ok(())
 }
 
+// A tree, and what is shown of it, or why it can't be read.
+const CASES: &str = r#"{"spec":{"size":"x"}} | not a whole number at spec size
+{"spec":{"size":1.0}} | not a whole number at spec size
+{"spec":{"size":1e2}} | not a whole number at spec size
+{"spec":{"size":-0}} | not a whole number at spec size
+{"spec":{"size":9223372036854775808}} | not a whole number at spec size
+{"spec":{"size":9223372036854775807}} | {"spec":{"size":9223372036854775807}}
+{"spec":{"size":-9223372036854775808}} | {"spec":{"size":-9223372036854775808}}
+{"spec":{"count":"-9223372036854775808"}} | {"spec":{"count":"-9223372036854775808"}}
+{"spec":{"count":"9223372036854775808"}} | not a decimal at spec count
+{"spec":{"count":"007","color":1}} | not a text at spec color
+{"spec":{"count":"-0"}} | not a decimal at spec count
+{"spec":{"count":"+1"}} | not a decimal at spec count
+{"spec":{"active":0}} | not a boolean at spec active
+{"spec":[],"tags":[]} | not an object at spec
+{"spec":null,"tags":[]} | {"tags":[]}
+{"spec":{"size":null,"other":1},"tags":["a","b"]} | {"tags":["a","b"]}
+{"tags":["a",1]} | not a list of texts at tags
+[1] | {}"#;
+
 #[test]
 fn trees_are_read(rt: HostRuntime) -> Result<(), Fail> {
     let alloc = rt.alloc();
     let old = old_widgets(alloc)?;
-    let cases = [
-        (
-            r#"{"spec":{"size":"x"}}"#,
-            "not a whole number at spec size",
-        ),
-        (
-            r#"{"spec":{"size":1.0}}"#,
-            "not a whole number at spec size",
-        ),
-        (
-            r#"{"spec":{"size":1e2}}"#,
-            "not a whole number at spec size",
-        ),
-        (r#"{"spec":{"size":-0}}"#, "not a whole number at spec size"),
-        (
-            r#"{"spec":{"size":9223372036854775808}}"#,
-            "not a whole number at spec size",
-        ),
-        (
-            r#"{"spec":{"size":9223372036854775807}}"#,
-            r#"{"spec":{"size":9223372036854775807}}"#,
-        ),
-        (
-            r#"{"spec":{"size":-9223372036854775808}}"#,
-            r#"{"spec":{"size":-9223372036854775808}}"#,
-        ),
-        (
-            r#"{"spec":{"count":"-9223372036854775808"}}"#,
-            r#"{"spec":{"count":"-9223372036854775808"}}"#,
-        ),
-        (
-            r#"{"spec":{"count":"9223372036854775808"}}"#,
-            "not a decimal at spec count",
-        ),
-        (
-            r#"{"spec":{"count":"007","color":1}}"#,
-            "not a text at spec color",
-        ),
-        (r#"{"spec":{"count":"-0"}}"#, "not a decimal at spec count"),
-        (r#"{"spec":{"count":"+1"}}"#, "not a decimal at spec count"),
-        (r#"{"spec":{"active":0}}"#, "not a boolean at spec active"),
-        (r#"{"spec":[],"tags":[]}"#, "not an object at spec"),
-        (r#"{"spec":null,"tags":[]}"#, r#"{"tags":[]}"#),
-        (
-            r#"{"spec":{"size":null,"other":1},"tags":["a","b"]}"#,
-            r#"{"tags":["a","b"]}"#,
-        ),
-        (r#"{"tags":["a",1]}"#, "not a list of texts at tags"),
-        ("[1]", "{}"),
-    ];
-    for (text, want) in cases {
+    for case in CASES.lines() {
+        let (text, want) = case.split_once(" | ").ok_or("a case")?;
         let line = converted(alloc, &old, &old, text, Mode::Stored)?;
         assert_eq!(rt; line.as_str(), want, "{text}");
     }
