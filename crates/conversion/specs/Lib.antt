@@ -1,4 +1,5 @@
 pub mod Trees
+pub mod Causes
 pub mod Writing
 pub mod Reading
 pub mod Showing

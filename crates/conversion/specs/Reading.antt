@@ -1,14 +1,11 @@
 -- What a JSON tree reads as, and why one can't be read.
 use Rattle.std.specs.Prelude.{◌≡◌, ◌≢◌, ◌⊎◌, ℕ, List, ◌∷◌, ◌++◌, Option, Some, None, All, if◌then◌else◌}
 use Rattle.fields.specs.Map.{IsMap, value_at}
-use Rattle.fields.specs.declared.field.Form.{Form}
-use Rattle.fields.specs.declared.field.Form.TheVariants.{Same, Not, Decimal}
 use Rattle.fields.specs.declared.map.FieldPair.{FieldPair}
 use Rattle.fields.specs.declared.table.FieldRow.{FieldRow}
-use Rattle.fields.specs.declared.value.FieldType.{FieldType}
-use Rattle.fields.specs.declared.value.FieldType.TheVariants.{Bool, Int, Text, TextList}
 use Rattle.fields.specs.declared.value.FieldValue.{FieldValue}
 use Rattle.serde_json.specs.Data.{Data, null}
+use Rattle.conversion.specs.Causes.{cause_of}
 use Rattle.conversion.specs.Trees.{Names, Stands, IsAbsent, IsBlocked}
 use Rattle.conversion.specs.Writing.{Spells}
 use Rattle.conversion.specs.declared.mode.Mode.{Mode}
@@ -16,7 +13,7 @@ use Rattle.conversion.specs.declared.mode.Mode.TheVariants.{Body, Stored}
 use Rattle.conversion.specs.declared.fault.ReadCause.{ReadCause}
 use Rattle.conversion.specs.declared.fault.ReadFault.{ReadFault}
 use Rattle.conversion.specs.declared.fault.ReadFault.TheVariants.{Bad, Memory}
-use Rattle.conversion.specs.declared.fault.ReadCause.TheVariants.{NotObject, NotBool, NotInt, NotText, NotList, NotDecimal}
+use Rattle.conversion.specs.declared.fault.ReadCause.TheVariants.{NotObject}
 
 -- ---- one row
 
@@ -44,15 +41,6 @@ pub record Reads (mode : Mode) (rows : List FieldRow) (tree : Data) (held : List
   pub only : (id : List ℕ) → All (λ row. row.id ≢ id) rows → value_at held id ≡ None
 
 -- ---- faults
-
--- what is said of a value that isn't of the field's type, in the form
-abbrev pub cause_of : FieldType → Form → ReadCause
-cause_of Bool form = NotBool
-cause_of Int Same = NotInt
-cause_of Int Not = NotInt
-cause_of Int Decimal = NotDecimal
-cause_of Text form = NotText
-cause_of TextList form = NotList
 
 -- something other than null stands at the path, and is no value of the field
 pub record IsMisspelled (tree : Data) (row : FieldRow) : Type 0 where

@@ -1,11 +1,12 @@
 //! What JSON trees read as.
-ghost use Rattle.std.specs.Prelude.{◌≡◌, ◌<◌, ◌≤◌, length, take, All, IfOk, OnOk, IfErr, Option};
+ghost use Rattle.std.specs.Prelude.{◌≡◌, All, IfOk, OnOk, IfErr, Option};
 ghost use Rattle.fields.specs.Map.{IsMap};
 ghost use Rattle.fields.specs.Table.{IdsRise, AreLawful, IsLawfulRow};
 ghost use Rattle.fields.specs.declared.value.FieldValue.{FieldValue};
 ghost use Rattle.serde_json.specs.View.{view};
+ghost use Rattle.conversion.specs.Causes.{cause_of};
 ghost use Rattle.conversion.specs.Code.{IsFaultOf, IsFaultAt, IsRowTaken};
-ghost use Rattle.conversion.specs.Reading.{default_in, cause_of, IsRead, Reads, IsReadFault};
+ghost use Rattle.conversion.specs.Reading.{default_in, IsRead, Reads, IsReadFault};
 ghost use Rattle.conversion.specs.Showing.{IsOf};
 
 use crate::fault::{ReadCause, ReadFault};

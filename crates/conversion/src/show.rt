@@ -1,5 +1,5 @@
 //! Objects that show what a map of fields holds.
-ghost use Rattle.std.specs.Prelude.{◌≡◌, IfOk, All, IfSome, option_map, Some};
+ghost use Rattle.std.specs.Prelude.{◌≡◌, IfOk, IfSome, option_map};
 ghost use Rattle.fields.specs.Map.{value_at};
 ghost use Rattle.fields.specs.Table.{AreLawful, IsLawfulRow, type_of};
 ghost use Rattle.serde_json.specs.View.{view, members_view};
