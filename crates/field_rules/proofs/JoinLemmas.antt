@@ -1,5 +1,5 @@
 -- Fields and spellings are lawful exactly where no entry breaks a rule.
-use Rattle.std.proofs.Common.{ℕ, ◌≡◌, ◌+◌, ◌<◌, ◌≤◌, List, [], ◌∷◌, true, false, Option, Some, None, take, length, max, refl, inl, inr, ◌⊎◌, arith}
+use Rattle.std.proofs.Common.{ℕ, ◌≡◌, ◌+◌, ◌≤◌, List, [], ◌∷◌, true, false, Option, Some, None, take, length, max, refl, inl, inr, ◌⊎◌, arith}
 use Rattle.std.specs.Prelude.{slice_get, filter, All, Any, IfSome, IsNone}
 use Rattle.std.specs.Str.{bytes_eq}
 use Rattle.std.proofs.lemmas.Slice.Eq.{bytes_eq-Decides}
@@ -17,12 +17,12 @@ use Rattle.lifecycle.specs.declared.entry.ApiChange.{ApiChange}
 use Rattle.lifecycle.specs.declared.entry.ApiChange.TheVariants.{Introduced, Deprecated, Removed, Forgotten}
 use Rattle.lifecycle.specs.declared.entry.ApiEntry.{ApiEntry}
 use Rattle.schemas.specs.declared.array.Array.{Array}
-use Rattle.schemas.specs.Places.{Each, Breaks, IsFirst}
+use Rattle.schemas.specs.Places.{Each, Breaks}
 use Rattle.schemas.proofs.PlaceLemmas.{unbroken}
-use Rattle.schemas.proofs.DecisionLemmas.{any_decided, decided, both, at_most_decided, forgotten_decided, IsStable, stable_decided, stable_not, stable_to, stable_all, stable_holds, stable_fails, stable_less, stable_at_most, stable_same, stable_bool}
+use Rattle.schemas.proofs.DecisionLemmas.{any_decided, decided, both, at_most_decided, forgotten_decided, IsStable, stable_decided, stable_not, stable_to, stable_all, stable_holds, stable_fails, stable_less, stable_at_most, stable_bool}
 use Rattle.field_rules.specs.FieldRules.{is_of_resource, AreOneField, BelongsToResource, IsAlwaysThere, IsRequiredFairly, HasKnownGate, IsSpelledThroughout, begins_at}
 use Rattle.field_rules.specs.Pairs.{IntroducesVersionOf, IsPair, IsOfField, IsOfVersion, IsSpelling, SpellsPair, AreOfOneVersion, AreOfOnePair}
-use Rattle.field_rules.specs.Paths.{AreApart, IsFreeSegment, BeginsFree}
+use Rattle.field_rules.specs.Paths.{AreApart, IsFreeSegment}
 use Rattle.field_rules.specs.Rules.{Lists, AreLawful, Check, checks, IsUnbroken, IsFirstFault}
 use Rattle.field_rules.specs.SpellRules.{SpellsPairOnce, HasOwnPath, FitsForm, FitsDefault, FitsType, FitsField}
 

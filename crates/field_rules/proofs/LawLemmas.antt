@@ -1,5 +1,5 @@
 -- The laws of lawful fields and spellings.
-use Rattle.std.proofs.Common.{ℕ, ◌≡◌, ◌+◌, ◌<◌, ◌≤◌, List, [], ◌∷◌, Bool, true, false, Option, Some, None, length, take, max, refl, sym, ap, subst, ◌∙◌, arith, inl, inr, get_or}
+use Rattle.std.proofs.Common.{ℕ, ◌≡◌, ◌+◌, ◌<◌, ◌≤◌, List, Option, Some, None, length, take, max, refl, sym, ap, subst, ◌∙◌, arith, inl, inr}
 use Rattle.std.specs.Prelude.{◌&&◌, slice_get, All, Any}
 use Rattle.std.specs.Str.{bytes_eq}
 use Rattle.std.proofs.lemmas.Bool.{and_parts, cases_order}
@@ -16,11 +16,11 @@ use Rattle.lifecycle.specs.declared.entry.ApiEntry.{ApiEntry}
 use Rattle.schemas.specs.ApiRules.{is_of_version, previous_of_version, name_of, IsForgetting, IsForgotten, IsLateAfter, IsForgottenLate, ForgetsLate}
 use Rattle.schemas.specs.Places.{Each}
 use Rattle.schemas.proofs.PlaceLemmas.{some_injective}
-use Rattle.schemas.proofs.PreviousLemmas.{IsLast, last_passing_is}
+use Rattle.schemas.proofs.PreviousLemmas.{entry_at, IsLast, last_passing_is}
 use Rattle.field_rules.specs.FieldRules.{AreOneField}
-use Rattle.field_rules.specs.Laws.{IsDecodable, LiveStaysDecodable, AreIntroducedOnce, IsSpelledOnceBy, DecodableIsSpelled, PathsAreApart}
-use Rattle.field_rules.specs.Pairs.{IntroducesVersionOf, IsPair, IsOfField, IsOfVersion, IsSpelling, SpellsPair, AreOfOneVersion, AreOfOnePair, HasOneSpelling, EachPairHasOneSpelling}
-use Rattle.field_rules.specs.Paths.{IsPrefix, AreApart}
+use Rattle.field_rules.specs.Laws.{ArePairsKept, IsDecodable, LiveStaysDecodable, AreIntroducedOnce, IsSpelledOnceBy, DecodableIsSpelled, PathsAreApart}
+use Rattle.field_rules.specs.Pairs.{IsPair, IsOfField, IsOfVersion, IsSpelling, SpellsPair, AreOfOneVersion, AreOfOnePair, HasOneSpelling, AreSpelledOnce}
+use Rattle.field_rules.specs.Paths.{AreApart}
 use Rattle.field_rules.specs.Rules.{Lists, AreLawful}
 
 -- some entry of a list, by its place
@@ -101,15 +101,61 @@ one_pair f name s t first second = (
 )
 
 -- HR14: two spellings of one field in one version stand at one place
-one_spelling : (h : Lists) → AreLawful h → (f : Field) (name : GroupVersionResource) (i j : ℕ) (s t : Spell) → slice_get h.spells i ≡ Some s → slice_get h.spells j ≡ Some t → IsSpelling f name s → IsSpelling f name t → i ≡ j
-one_spelling h lawful f name i j s t at_i at_j first second =
-    one_place AreOfOnePair h.spells (λ k x stands. (lawful.spelled_once k x stands).single) i j s t at_i at_j (one_pair f name s t first second) (one_pair f name t s second first)
+one_spelling : (h : Lists) → ArePairsKept h → (f : Field) (name : GroupVersionResource) (i j : ℕ) (s t : Spell) → slice_get h.spells i ≡ Some s → slice_get h.spells j ≡ Some t → IsSpelling f name s → IsSpelling f name t → i ≡ j
+one_spelling h kept f name i j s t at_i at_j first second = one_place AreOfOnePair h.spells (λ k x stands. (kept.of_spellings k x stands).single) i j s t at_i at_j (one_pair f name s t first second) (one_pair f name t s second first)
 
-pub pairs_spelled_once : (h : Lists) → AreLawful h → EachPairHasOneSpelling h.apis h.fields h.spells
-pairs_spelled_once h lawful = λ (i j : ℕ) (f : Field) (x : ApiEntry) (at_i : slice_get h.fields i ≡ Some f) (at_j : slice_get h.apis j ≡ Some x) (pair : IsPair h.apis f x). record {
-  some = each_at (λ a. IsPair h.apis f a → Any (IsSpelling f (subject a)) h.spells) h.apis j x at_j (lawful.spelled_throughout i f at_i) pair;
-  one = one_spelling h lawful f (subject x);
+pub pairs_spelled_once : (h : Lists) → ArePairsKept h → AreSpelledOnce h.apis h.fields h.spells
+pairs_spelled_once h kept = record {
+  pairs = λ (i j : ℕ) (f : Field) (x : ApiEntry) (at_i : slice_get h.fields i ≡ Some f) (at_j : slice_get h.apis j ≡ Some x) (pair : IsPair h.apis f x). record {
+    some = each_at (λ a. IsPair h.apis f a → Any (IsSpelling f (subject a)) h.spells) h.apis j x at_j (kept.of_fields i f at_i) pair;
+    one = one_spelling h kept f (subject x);
+  };
+  spellings = λ i s stands. (kept.of_spellings i s stands).paired;
 }
+
+all_at : {E : Type 0} (P : E → Type 0) (xs : List E) → ((k : ℕ) (x : E) → slice_get xs k ≡ Some x → P x) → All P xs
+all_at {E} P xs each = λ (k : ℕ) (d : E) (within : k < length xs).
+    let at = entry_at xs k within in
+    subst P (sym (get_or_from_slice_get xs k at.0 d at.1)) (each k at.0 at.1)
+
+all_earlier_at : {E : Type 0} (P : E → Type 0) (xs : List E) (n : ℕ) → n ≤ length xs → ((k : ℕ) (x : E) → k < n → slice_get xs k ≡ Some x → P x) → All P (take n xs)
+all_earlier_at {E} P xs n bound each = λ (k : ℕ) (d : E) (within : k < length (take n xs)).
+    let low : k < n = subst (λ (m : ℕ). k < m) (length-take-le n xs bound) within in
+    let below : k < length xs = omega arith in
+    let at = entry_at xs k below in
+    subst P (sym (get_or-take n xs k d low ∙ get_or_from_slice_get xs k at.0 d at.1)) (each k at.0 low at.1)
+
+-- a second spelling of a pair stands at another place than the first
+apart_of_pair : (h : Lists) → AreSpelledOnce h.apis h.fields h.spells → (i k : ℕ) (s t : Spell) → k < i → slice_get h.spells i ≡ Some s → slice_get h.spells k ≡ Some t → ¬ AreOfOnePair s t
+apart_of_pair h once i k s t less at_i at_k same =
+    let Q : Field → Type 0 = λ f. IsOfField f s × Any (SpellsPair h.apis f s) h.apis in
+    let paired : Any Q h.fields = once.spellings i s at_i in
+    let of : IsOfField paired.1 s = paired.4.0 in
+    let entry : Any (SpellsPair h.apis paired.1 s) h.apis = paired.4.1 in
+    let spells : SpellsPair h.apis paired.1 s entry.1 = entry.4 in
+    let version : IsOfVersion (subject entry.1) s = spells.spelling in
+    let here : IsSpelling paired.1 (subject entry.1) s = (of, version) in
+    let there : IsSpelling paired.1 (subject entry.1) t = (
+      record { group = of.group ∙ same.0.group; resource = of.resource ∙ same.0.resource; id = of.id ∙ same.1 },
+      record { group = version.group ∙ same.0.group; version = version.version ∙ same.0.version; resource = version.resource ∙ same.0.resource },
+    ) in
+    let place : k ≡ i = (once.pairs paired.0 entry.0 paired.1 entry.1 (any_stands Q h.fields paired) (any_stands (SpellsPair h.apis paired.1 s) h.apis entry) spells.pair).one k i t s at_k at_i there here in
+    absurd (omega arith)
+
+pub pairs_kept : (h : Lists) → AreSpelledOnce h.apis h.fields h.spells → ArePairsKept h
+pairs_kept h once = record {
+  of_fields = λ i f at_i. all_at (λ a. IsPair h.apis f a → Any (IsSpelling f (subject a)) h.spells) h.apis (λ j x at_j (pair : IsPair h.apis f x). (once.pairs i j f x at_i at_j pair).some);
+  of_spellings = λ (i : ℕ) (s : Spell) (at_i : slice_get h.spells i ≡ Some s).
+      let within : i < length h.spells = slice_get_within h.spells i s at_i in
+      let bound : i ≤ length h.spells = omega arith in
+      record {
+        paired = once.spellings i s at_i;
+        single = all_earlier_at (λ t. ¬ AreOfOnePair s t) h.spells i bound (λ k t less at_k. apart_of_pair h once i k s t less at_i at_k);
+      };
+}
+
+pairs_of : (h : Lists) → AreLawful h → ArePairsKept h
+pairs_of h lawful = record { of_fields = lawful.spelled_throughout; of_spellings = lawful.spelled_once }
 
 -- HR15: paths are apart both ways
 turned : (p q : List (List ℕ)) → AreApart p q → AreApart q p
@@ -174,7 +220,7 @@ decodable_spelled h once lawful = λ (name : GroupVersionResource) (e i : ℕ) (
       version = record { of_group = known.group ∙ sym of_group; of_resource = known.resource ∙ sym of_resource; introduces = is };
       kept = λ (forgotten : IsForgotten h.apis (subject decodable.0.1) f.since). decodable.1 (subst (λ (n : GroupVersionResource). IsForgotten h.apis n e) named (forgotten_later h.apis (subject decodable.0.1) f.since e by forgotten));
     } in
-    let spelled : HasOneSpelling h.spells f (subject decodable.0.1) = pairs_spelled_once h lawful i decodable.0.0 f decodable.0.1 at_i at_j pair in
+    let spelled : HasOneSpelling h.spells f (subject decodable.0.1) = (pairs_spelled_once h (pairs_of h lawful)).pairs i decodable.0.0 f decodable.0.1 at_i at_j pair in
     let some : Any (IsSpelling f (subject decodable.0.1)) h.spells = spelled.some in
     let dated : some.1.since ≤ e = dated_by h lawful once i decodable.0.0 some.0 e f decodable.0.1 some.1 at_i at_j (any_stands (IsSpelling f (subject decodable.0.1)) h.spells some) is some.4 by known.dated in
     let here : Any (λ s. IsSpelling f (subject decodable.0.1) s × (s.since ≤ e)) h.spells = (some.0, some.1, some.2, some.3, (some.4, dated)) in

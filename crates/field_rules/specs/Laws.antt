@@ -7,9 +7,17 @@ use Rattle.lifecycle.specs.declared.entry.ApiEntry.{ApiEntry}
 use Rattle.schemas.specs.ApiRules.{IsForgotten}
 use Rattle.schemas.specs.declared.array.Array.{Array}
 use Rattle.schemas.specs.Laws.{AreOfOneVersion as AreEntriesOfOneVersion}
+use Rattle.schemas.specs.Places.{Each}
+use Rattle.field_rules.specs.FieldRules.{IsSpelledThroughout}
+use Rattle.field_rules.specs.SpellRules.{SpellsPairOnce}
 use Rattle.field_rules.specs.Pairs.{IsSpelling, AreOfOneVersion}
 use Rattle.field_rules.specs.Paths.{AreApart}
 use Rattle.field_rules.specs.Rules.{Lists, AreLawful, checks, IsUnbroken, IsFirstFault}
+
+-- HR14 is kept, of fields and of spellings
+pub record ArePairsKept (h : Lists) : Type 0 where
+  pub of_fields : Each (IsSpelledThroughout h.apis h.spells) h.fields
+  pub of_spellings : Each (SpellsPairOnce h.apis h.fields) h.spells
 
 -- objects in the version are read at the release: it is introduced and not forgotten
 abbrev pub IsDecodable : List ApiEntry → GroupVersionResource → ℕ → Type 0

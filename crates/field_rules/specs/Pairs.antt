@@ -57,3 +57,12 @@ pub record SpellsPair (apis : List ApiEntry) (f : Field) (s : Spell) (x : ApiEnt
   pub pair : IsPair apis f x
   pub spelling : IsOfVersion (subject x) s
   pub dated : s.since ≡ max f.since x.since
+
+-- s is the spelling of a pair
+abbrev pub IsPaired : List ApiEntry → List Field → Spell → Type 0
+IsPaired apis fields s = Any (λ f. IsOfField f s × Any (SpellsPair apis f s) apis) fields
+
+-- each pair has exactly one spelling, and each spelling is that of a pair
+pub record AreSpelledOnce (apis : List ApiEntry) (fields : List Field) (spells : List Spell) : Type 0 where
+  pub pairs : EachPairHasOneSpelling apis fields spells
+  pub spellings : (i : ℕ) (s : Spell) → slice_get spells i ≡ Some s → IsPaired apis fields s

@@ -1,5 +1,5 @@
 -- The rules on spellings, one entry at a time.
-use Rattle.std.specs.Prelude.{◌≡◌, ◌≤◌, List, length, All, Any, Option, IfSome}
+use Rattle.std.specs.Prelude.{◌≡◌, ◌≤◌, List, length, All, Option, IfSome}
 use Rattle.fields.specs.declared.field.Field.{Field}
 use Rattle.fields.specs.declared.field.Form.{Form}
 use Rattle.fields.specs.declared.field.Form.TheVariants.{Same, Not, Decimal}
@@ -9,12 +9,12 @@ use Rattle.fields.specs.declared.value.FieldType.TheVariants.{Bool as OfBool, In
 use Rattle.fields.specs.declared.value.FieldValue.{FieldValue}
 use Rattle.fields.specs.declared.value.FieldValue.TheVariants.{Bool as ABool, Int as AnInt, Text as AText}
 use Rattle.lifecycle.specs.declared.entry.ApiEntry.{ApiEntry}
-use Rattle.field_rules.specs.Pairs.{IsOfField, SpellsPair, AreOfOneVersion, AreOfOnePair}
+use Rattle.field_rules.specs.Pairs.{IsOfField, IsPaired, AreOfOneVersion, AreOfOnePair}
 use Rattle.field_rules.specs.Paths.{AreApart, BeginsFree}
 
 -- HR14, of a spelling: it is that of a pair, dated when both the field and the version are there, and the pair has no earlier one
 pub record SpellsPairOnce (apis : List ApiEntry) (fields : List Field) (earlier : List Spell) (s : Spell) : Type 0 where
-  pub paired : Any (λ f. IsOfField f s × Any (SpellsPair apis f s) apis) fields
+  pub paired : IsPaired apis fields s
   pub single : All (λ t. ¬ AreOfOnePair s t) earlier
 
 -- HR15: the path begins at a member of its own, and is apart from each earlier one of its version

@@ -4,7 +4,7 @@ ghost use Rattle.lifecycle.specs.Entry.{subject, IsIntroduction};
 ghost use Rattle.schemas.specs.ApiRules.{name_of, IsForgotten};
 ghost use Rattle.field_rules.specs.Answers.{IsSpelledIn, PairsWith};
 ghost use Rattle.field_rules.specs.Listing.{HasLent, EachLent};
-ghost use Rattle.field_rules.specs.Pairs.{IntroducesVersionOf, IsPair, IsOfField, IsOfVersion, IsSpelling, SpellsPair};
+ghost use Rattle.field_rules.specs.Pairs.{IntroducesVersionOf, IsPair, IsOfField, IsOfVersion, IsSpelling, IsPaired};
 ghost use Rattle.field_rules.specs.Rules.{lists};
 ghost use Rattle.field_rules.specs.SpellRules.{FitsType};
 
@@ -227,7 +227,7 @@ impl<'a> Index<'a> {
 
     /// Whether the spelling is that of a pair, and dated when both the field and the version are there.
     pub fn is_paired(&self, spell: &'a Spell) -> bool
-        ensures { IsTrue result ↔ Any (λ f. IsOfField f spell.now × Any (SpellsPair self.now.apis f spell.now) self.now.apis) self.now.fields }
+        ensures { IsTrue result ↔ IsPaired self.now.apis self.now.fields spell.now }
     {
         let group = spell.group.bytes();
         let resource = spell.resource.bytes();

@@ -1,10 +1,10 @@
 //! What follows from the rules, each as the contract of a function that does nothing.
-ghost use Rattle.std.specs.Prelude.{List};
+ghost use Rattle.std.specs.Prelude.{◌↔◌, List};
 ghost use Rattle.lifecycle.specs.declared.entry.ApiEntry.{ApiEntry as TheEntry};
 ghost use Rattle.schemas.specs.ApiRules.{ForgetsLate};
 ghost use Rattle.schemas.specs.Places.{Each};
-ghost use Rattle.field_rules.specs.Laws.{LiveStaysDecodable, AreIntroducedOnce, DecodableIsSpelled, PathsAreApart, IsJoined};
-ghost use Rattle.field_rules.specs.Pairs.{EachPairHasOneSpelling};
+ghost use Rattle.field_rules.specs.Laws.{ArePairsKept, LiveStaysDecodable, AreIntroducedOnce, DecodableIsSpelled, PathsAreApart, IsJoined};
+ghost use Rattle.field_rules.specs.Pairs.{AreSpelledOnce};
 ghost use Rattle.field_rules.specs.Rules.{Lists, AreLawful};
 
 /// Fields and spellings are lawful exactly where no entry breaks a rule, and have then no first fault.
@@ -12,9 +12,10 @@ pub fn lawful_is_unbroken()
     ensures { (h : Lists) → IsJoined h }
 {}
 
-/// Each pair of a field and a version has exactly one spelling (by HR14).
+/// HR14 is kept exactly where each pair of a field and a version has exactly one spelling, and each spelling is that of
+/// a pair.
 pub fn pairs_have_one_spelling()
-    ensures { (h : Lists) → AreLawful h → EachPairHasOneSpelling h.apis h.fields h.spells }
+    ensures { (h : Lists) → ArePairsKept h ↔ AreSpelledOnce h.apis h.fields h.spells }
 {}
 
 /// The paths of two spellings of one version are apart (by HR15).

@@ -329,7 +329,21 @@ fn fields_of_resources(rt: HostRuntime) -> Result<(), Fail> {
 #[test]
 fn spellings_of_pairs(rt: HostRuntime) -> Result<(), Fail> {
     let alloc = rt.alloc();
-    let cases: [(&[Row], (u8, Array, u64)); 6] = [
+    let cases: [(&[Row], (u8, Array, u64)); 7] = [
+        (
+            &[
+                Row::Gate("WidgetColor", 29),
+                Row::New("widgets", "v1beta1", 28),
+                Row::New("widgets", "v1", 30),
+                Row::Has("widgets", "size", 28, FieldType::Int),
+                Row::Has("widgets", "color", 29, FieldType::Text),
+                Row::Spelled("widgets", "v1beta1", "size", 28, "spec.size"),
+                Row::Spelled("widgets", "v1", "size", 30, "spec.dimensions.size"),
+                Row::Spelled("widgets", "v1beta1", "color", 29, "spec.color"),
+                Row::Spelled("widgets", "v1", "color", 30, "spec.color"),
+            ],
+            LAWFUL,
+        ),
         (
             &[
                 Row::New("a", "v1", 28),
