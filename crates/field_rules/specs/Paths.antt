@@ -1,7 +1,7 @@
 -- The paths of fields in an object.
 use Rattle.std.specs.Prelude.{ℕ, ◌≡◌, ◌≢◌, ◌++◌, List, IfSome, slice_get, codes}
 
--- a path, as its segments from the outermost on, goes through the other or is the same
+-- a path, as its segments from the outermost on, begins with another, or is the same
 abbrev pub IsPrefix : List (List ℕ) → List (List ℕ) → Type 0
 IsPrefix outer path = (rest : List (List ℕ)) × (path ≡ outer ++ rest)
 
@@ -10,7 +10,7 @@ pub record AreApart (p q : List (List ℕ)) : Type 0 where
   pub first_not_prefix : ¬ IsPrefix p q
   pub second_not_prefix : ¬ IsPrefix q p
 
--- a member that each object has beside its fields
+-- the segment is none of the members that each object has beside its fields
 pub record IsFreeSegment (segment : List ℕ) : Type 0 where
   pub not_api_version : segment ≢ codes "apiVersion"
   pub not_kind : segment ≢ codes "kind"

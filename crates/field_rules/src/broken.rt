@@ -2,11 +2,11 @@ ghost use Rattle.std.specs.Prelude.{◌≡◌, IfOk};
 ghost use Rattle.field_rules.specs.Fault.{FindsFault};
 ghost use Rattle.field_rules.specs.Rules.{lists};
 
-use crate::field_tests::{
+use crate::index::Index;
+use crate::on_fields::{
     first_misplaced, first_unfairly_required, first_unspelled, first_with_unknown_gate,
 };
-use crate::index::Index;
-use crate::spell_tests::{first_met_path, first_unfit, first_unpaired};
+use crate::on_spellings::{first_met_path, first_unfit, first_unpaired};
 use basis::Memory;
 use fields::{Field, Spell};
 use gate_spec::GateEntry;

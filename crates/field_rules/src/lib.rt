@@ -3,13 +3,13 @@
 
 mod broken;
 mod entries;
-mod field_tests;
 mod index;
 mod keys;
 mod laws;
 mod listing;
+mod on_fields;
+mod on_spellings;
 mod paths;
-mod spell_tests;
 #[cfg(test)]
 mod tests;
 mod types;

@@ -1,6 +1,6 @@
 use Rattle.field_rules.specs.FieldRules.{HasKnownGate}
 use Rattle.schemas.proofs.PlaceLemmas.{EachBelow}
-use Rattle.field_rules.proofs.field_tests.first_with_unknown_gate.Given as goal
+use Rattle.field_rules.proofs.on_fields.first_with_unknown_gate.Given as goal
 
 abbrev pub invariant-loop-i : goal.invariant-loop-i
 invariant-loop-i l = EachBelow (HasKnownGate l.index.first l.index.gates) l.fields l.i

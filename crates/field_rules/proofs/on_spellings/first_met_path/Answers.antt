@@ -5,7 +5,7 @@ use Rattle.field_rules.specs.SpellRules.{HasOwnPath}
 use Rattle.field_rules.specs.Keys.{version_of_spell}
 use Rattle.field_rules.specs.Listing.{IsListing}
 use Rattle.schemas.proofs.PlaceLemmas.{each_more, each_whole, first_broken}
-use Rattle.field_rules.proofs.spell_tests.first_met_path.Goals as goal
+use Rattle.field_rules.proofs.on_spellings.first_met_path.Goals as goal
 
 pub returns-then-not-has_own_path : goal.returns-then-not-has_own_path
 returns-then-not-has_own_path c =

@@ -1,7 +1,7 @@
 use Rattle.std.proofs.Common.{rules, arith}
 use Rattle.field_rules.specs.SpellRules.{FitsField}
 use Rattle.schemas.proofs.PlaceLemmas.{each_more, each_whole, first_broken}
-use Rattle.field_rules.proofs.spell_tests.first_unfit.Goals as goal
+use Rattle.field_rules.proofs.on_spellings.first_unfit.Goals as goal
 
 pub returns-then-not-fits_field : goal.returns-then-not-fits_field
 returns-then-not-fits_field c = first_broken (FitsField c.args.index.now.fields) c.args.spells.now c.loop-i.i c.index-spells-i.result c.loop-i-test.true c.index-spells-i.is c.loop-i.invariant (search rules)

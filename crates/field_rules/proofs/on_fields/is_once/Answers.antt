@@ -3,7 +3,7 @@ use Rattle.fields.specs.declared.field.Field.{Field}
 use Rattle.field_rules.specs.Keys.{resource_of_field}
 use Rattle.field_rules.specs.Listing.{IsListing}
 use Rattle.field_rules.proofs.TestLemmas.{once}
-use Rattle.field_rules.proofs.field_tests.is_once.Goals as goal
+use Rattle.field_rules.proofs.on_fields.is_once.Goals as goal
 
 pub returns : goal.returns
 returns c = λ (fields : List Field) (listing : IsListing resource_of_field fields c.args.earlier.now).

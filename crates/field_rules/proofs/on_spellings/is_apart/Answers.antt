@@ -3,7 +3,7 @@ use Rattle.fields.specs.declared.field.Spell.{Spell}
 use Rattle.field_rules.specs.Keys.{version_of_spell}
 use Rattle.field_rules.specs.Listing.{IsListing}
 use Rattle.field_rules.proofs.TestLemmas.{apart}
-use Rattle.field_rules.proofs.spell_tests.is_apart.Goals as goal
+use Rattle.field_rules.proofs.on_spellings.is_apart.Goals as goal
 
 pub returns : goal.returns
 returns c = λ (spells : List Spell) (listing : IsListing version_of_spell spells c.args.earlier.now).

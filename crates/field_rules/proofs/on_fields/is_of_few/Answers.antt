@@ -5,7 +5,7 @@ use Rattle.field_rules.specs.FieldRules.{is_of_resource}
 use Rattle.field_rules.specs.Keys.{resource_of_field}
 use Rattle.field_rules.specs.Listing.{IsListing}
 use Rattle.field_rules.proofs.TestLemmas.{few}
-use Rattle.field_rules.proofs.field_tests.is_of_few.Goals as goal
+use Rattle.field_rules.proofs.on_fields.is_of_few.Goals as goal
 
 pub returns : goal.returns
 returns c = λ (fields : List Field) (listing : IsListing resource_of_field fields c.args.earlier.now).

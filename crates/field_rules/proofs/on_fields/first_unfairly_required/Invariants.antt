@@ -1,6 +1,6 @@
 use Rattle.field_rules.specs.FieldRules.{IsRequiredFairly}
 use Rattle.schemas.proofs.PlaceLemmas.{EachBelow}
-use Rattle.field_rules.proofs.field_tests.first_unfairly_required.Given as goal
+use Rattle.field_rules.proofs.on_fields.first_unfairly_required.Given as goal
 
 abbrev pub invariant-loop-i : goal.invariant-loop-i
 invariant-loop-i l = EachBelow (IsRequiredFairly l.index.apis) l.fields l.i

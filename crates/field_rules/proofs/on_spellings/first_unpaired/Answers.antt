@@ -5,7 +5,7 @@ use Rattle.field_rules.specs.SpellRules.{SpellsPairOnce}
 use Rattle.field_rules.specs.Keys.{version_of_spell}
 use Rattle.field_rules.specs.Listing.{IsListing}
 use Rattle.schemas.proofs.PlaceLemmas.{each_more, each_whole, first_broken}
-use Rattle.field_rules.proofs.spell_tests.first_unpaired.Goals as goal
+use Rattle.field_rules.proofs.on_spellings.first_unpaired.Goals as goal
 
 pub returns-then-not-spells_pair_once : goal.returns-then-not-spells_pair_once
 returns-then-not-spells_pair_once c =

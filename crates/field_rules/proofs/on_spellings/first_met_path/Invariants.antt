@@ -3,7 +3,7 @@ use Rattle.field_rules.specs.Keys.{version_of_spell}
 use Rattle.field_rules.specs.Listing.{IsListing}
 use Rattle.field_rules.specs.SpellRules.{HasOwnPath}
 use Rattle.schemas.proofs.PlaceLemmas.{EachBelow}
-use Rattle.field_rules.proofs.spell_tests.first_met_path.Given as goal
+use Rattle.field_rules.proofs.on_spellings.first_met_path.Given as goal
 
 abbrev pub invariant-loop-i : goal.invariant-loop-i
 invariant-loop-i l = record { before : EachBelow HasOwnPath l.spells l.i; earlier : IsListing version_of_spell (take l.i l.spells) l.earlier }

@@ -1,7 +1,7 @@
 use Rattle.std.proofs.Common.{rules, arith}
 use Rattle.field_rules.specs.FieldRules.{IsRequiredFairly}
 use Rattle.schemas.proofs.PlaceLemmas.{each_more, each_whole, first_broken}
-use Rattle.field_rules.proofs.field_tests.first_unfairly_required.Goals as goal
+use Rattle.field_rules.proofs.on_fields.first_unfairly_required.Goals as goal
 
 pub returns-then-not-is_required_fairly : goal.returns-then-not-is_required_fairly
 returns-then-not-is_required_fairly c = first_broken (IsRequiredFairly c.args.index.now.apis) c.args.fields.now c.loop-i.i c.index-fields-i.result c.loop-i-test.true c.index-fields-i.is c.loop-i.invariant (search rules)

@@ -5,7 +5,7 @@ use Rattle.field_rules.specs.FieldRules.{BelongsToResource}
 use Rattle.field_rules.specs.Keys.{resource_of_field}
 use Rattle.field_rules.specs.Listing.{IsListing}
 use Rattle.schemas.proofs.PlaceLemmas.{each_more, each_whole, first_broken}
-use Rattle.field_rules.proofs.field_tests.first_misplaced.Goals as goal
+use Rattle.field_rules.proofs.on_fields.first_misplaced.Goals as goal
 
 pub returns-then-not-belongs : goal.returns-then-not-belongs
 returns-then-not-belongs c =
