@@ -80,12 +80,7 @@ fn listed_groups(
 }
 
 /// The group list of a release under a runtime configuration, or why it refuses the configuration.
-fn listing_at(
-    alloc: Global,
-    accepted: &Accepted,
-    e: Minor,
-    runtime: &str,
-) -> Result<Answer, Memory>
+fn listing_at(alloc: Global, accepted: &Accepted, e: Minor, runtime: &str) -> Result<Answer, Memory>
     requires { IsEmulable (first_of accepted.now) (last_of accepted.now) e }
     ensures { IfOk result (λ a. IsListingAt accepted.now.apis e runtime.now a.status (string_bytes a.text)) }
 {

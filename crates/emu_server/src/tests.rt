@@ -142,6 +142,59 @@ fn answers_on_the_example(rt: HostRuntime) -> Result<(), Fail> {
 }
 
 #[test]
+fn discovers_under_a_configuration(rt: HostRuntime) -> Result<(), Fail> {
+    let cases = [
+        (
+            "1.30",
+            "api/all=false",
+            Status::Flags,
+            "runtime-config: only api/all=false\n",
+        ),
+        (
+            "1.30",
+            "api/all=false,demo.example/v1=true",
+            Status::Ok,
+            AT_33,
+        ),
+        ("1.31", "api/alpha=true", Status::Ok, AT_30),
+        (
+            "1.31",
+            "demo.example/v1alpha1=true",
+            Status::Flags,
+            "runtime-config: piece 1: AfterEmulated\n",
+        ),
+        (
+            "1.31",
+            "demo.example/v7=true",
+            Status::Flags,
+            "runtime-config: piece 1: UnknownApi\n",
+        ),
+        (
+            "1.33",
+            "demo.example/v1beta1=true",
+            Status::Flags,
+            "runtime-config: piece 1: RemovedApi\n",
+        ),
+        (
+            "1.34",
+            "x",
+            Status::Flags,
+            "emulated-version: out of range 1.30 to 1.33\n",
+        ),
+    ];
+    let alloc = rt.alloc();
+    for (release, config, status, text) in cases {
+        let emulated = format!(in alloc; "--emulated-version={release}")?;
+        let runtime = format!(in alloc; "--runtime-config={config}")?;
+        let words = ["discover", runtime.as_str(), emulated.as_str()];
+        let (ended, sink) = ended(alloc, &words, EXAMPLE.as_bytes(), &[], &[])?;
+        assert_eq!(rt; ended, status, "{config}");
+        assert_eq!(rt; sink.written(), text.as_bytes(), "{config}");
+    }
+    Ok(())
+}
+
+#[test]
 fn histories_that_are_refused(rt: HostRuntime) -> Result<(), Fail> {
     let alloc = rt.alloc();
     let cases = [
