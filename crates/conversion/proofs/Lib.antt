@@ -12,3 +12,4 @@ pub mod ValueLemmas
 pub mod SameLemmas
 pub mod FaultLemmas
 pub mod FitLemmas
+pub mod FloatLemmas

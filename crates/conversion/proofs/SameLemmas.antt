@@ -43,7 +43,7 @@ members_agree ms ns h name inner found =
           (deep.0, subst (λ t. Stands t path deep.0) same deep.1.2, deep.2),
     )
 
-here : (k : List ℕ) (d : Data) (ms : Members) → get_member k (member k d ms) ≡ Some d
+pub here : (k : List ℕ) (d : Data) (ms : Members) → get_member k (member k d ms) ≡ Some d
 here k d ms = rw (tied_itself nat_list_cmp_total k)
 
 none_above : (k : List ℕ) (ms : Members) → AllAbove k (names_of ms) → get_member k ms ≡ None
@@ -51,7 +51,7 @@ none_above k no_members h = refl
 none_above k (member l e ms) h = skips k l e ms (below_differs k l h.0) ∙ none_above k ms h.1
 
 -- a member after the first one
-later : (k : List ℕ) (d : Data) (ms : Members) (name : List ℕ) (inner : Data) → AllAbove k (names_of ms) → get_member name ms ≡ Some inner → name ≢ k
+pub later : (k : List ℕ) (d : Data) (ms : Members) (name : List ℕ) (inner : Data) → AllAbove k (names_of ms) → get_member name ms ≡ Some inner → name ≢ k
 later k d ms name inner above found same = not_both (get_member k ms) inner (none_above k ms above) (subst (λ n. get_member n ms ≡ Some inner) same found)
 
 tails_agree : (k l : List ℕ) (d e : Data) (ms ns : Members) → k ≡ l → AllAbove k (names_of ms) → MembersAgree (member k d ms) (member l e ns) → MembersAgree ms ns

@@ -1,8 +1,9 @@
 //! Objects that show what a map of fields holds.
-ghost use Rattle.std.specs.Prelude.{◌≡◌, IfOk, IfSome, option_map};
+ghost use Rattle.std.specs.Prelude.{◌≡◌, false, IfOk, IfSome, option_map};
 ghost use Rattle.fields.specs.Map.{value_at};
 ghost use Rattle.fields.specs.Table.{AreLawful, IsLawfulRow, type_of};
 ghost use Rattle.serde_json.specs.View.{view, members_view};
+ghost use Rattle.serde_json.specs.Written.{has_float};
 ghost use Rattle.conversion.specs.Code.{members_in, IsPlaced, KeepsOrder, IsRowShown};
 ghost use Rattle.conversion.specs.Reading.{Reads};
 ghost use Rattle.conversion.specs.Showing.{IsOf, Shows};
@@ -91,6 +92,7 @@ pub fn show_fields(alloc: Global, table: &VersionTable, fields: &Fields) -> Resu
     requires lawful { AreLawful table.now.rows }
     requires of { IsOf table.now.rows fields.now }
     ensures shown { IfOk result (λ v. Shows table.now.rows fields.now (view v)) }
+    ensures no_float { IfOk result (λ v. has_float (view v) ≡ false) }
     ensures reads_back { IfOk result (λ v. Reads Stored table.now.rows (view v) fields.now) }
 {
     let _pairs = fields.pairs();

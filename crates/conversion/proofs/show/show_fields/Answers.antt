@@ -1,4 +1,4 @@
-use Rattle.std.proofs.Common.{◌≡◌, List, Result, Ok, Err, IfOk, subst}
+use Rattle.std.proofs.Common.{◌≡◌, List, Result, Ok, Err, IfOk, false, subst}
 use Rattle.fields.specs.Map.{IsMap}
 use Rattle.fields.specs.Table.{AreLawful}
 use Rattle.fields.specs.declared.map.FieldPair.{FieldPair}
@@ -8,6 +8,8 @@ use Rattle.serde_json.specs.declared.value.Value.{Value}
 use Rattle.conversion.specs.Reading.{Reads}
 use Rattle.conversion.specs.Showing.{IsOf, Shows}
 use Rattle.conversion.specs.declared.mode.Mode.TheVariants.{Stored}
+use Rattle.serde_json.specs.Written.{has_float}
+use Rattle.conversion.proofs.FloatLemmas.{shown_no_float}
 use Rattle.conversion.proofs.RoundLemmas.{reads_back}
 use Rattle.conversion.proofs.show.show_fields.Goals as goal
 
@@ -18,3 +20,10 @@ read_again rows slice held (Err e) same lawful up of h = tt
 pub returns-clause-reads_back : goal.returns-clause-reads_back
 returns-clause-reads_back c =
     read_again c.args.table.now.rows c.items.result.now c.args.fields.now c.shown_rows.result c.items.ensures.value c.requires.lawful (subst IsMap c.pairs-pairs.ensures.value c.pairs-pairs.ensures.map) c.requires.of c.shown_rows.ensures
+
+no_floats : {E : Type 0} (rows : List FieldRow) (held : List FieldPair) (r : Result Value E) → IfOk r (λ v. Shows rows held (view v)) → IfOk r (λ v. has_float (view v) ≡ false)
+no_floats rows held (Ok v) h = shown_no_float rows held (view v) h
+no_floats rows held (Err e) h = tt
+
+pub returns-clause-no_float : goal.returns-clause-no_float
+returns-clause-no_float c = no_floats c.items.result.now c.args.fields.now c.shown_rows.result c.shown_rows.ensures
