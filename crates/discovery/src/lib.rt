@@ -6,6 +6,8 @@ mod gates;
 mod groups;
 mod releases;
 mod resources;
+#[cfg(test)]
+mod tests;
 mod text;
 
 pub use gates::metrics;
