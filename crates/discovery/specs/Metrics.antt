@@ -1,17 +1,9 @@
 -- The page of the gates' values (in the format of Prometheus).
 use Rattle.std.specs.Prelude.{ℕ, List, ◌++◌, Bool, true, false, codes}
 use Rattle.std.specs.List.{flat_map}
-use Rattle.gate_spec.specs.declared.entry.Stage.{Stage}
-use Rattle.gate_spec.specs.declared.entry.Stage.TheVariants.{Alpha, Beta, Ga, Deprecated}
+use Rattle.gate_spec.specs.Stages.{stage_word}
 use Rattle.gate_flags.specs.declared.values.GateRow.{GateRow}
 use Rattle.release_view.specs.Views.{Viewed}
-
--- the stage as a history document writes it
-abbrev pub stage_word : Stage → List ℕ
-stage_word Alpha = codes "ALPHA"
-stage_word Beta = codes "BETA"
-stage_word Ga = codes ""
-stage_word Deprecated = codes "DEPRECATED"
 
 abbrev pub value_digit : Bool → List ℕ
 value_digit true = codes "1"

@@ -1,6 +1,7 @@
 //! The page of the gates' values (in the format of Prometheus).
 ghost use Rattle.std.specs.Prelude.{◌≡◌, ◌++◌, IfOk, codes, string_bytes};
-ghost use Rattle.discovery.specs.Metrics.{stage_word, value_digit, metrics_head, metric_line, metric_lines, metrics_page};
+ghost use Rattle.gate_spec.specs.Stages.{stage_word};
+ghost use Rattle.discovery.specs.Metrics.{value_digit, metrics_head, metric_line, metric_lines, metrics_page};
 
 use basis::Memory;
 use gate_flags::GateRow;

@@ -1,5 +1,5 @@
 -- The range of releases of an accepted history, and the work at one of them.
-use Rattle.std.proofs.Common.{◌≡◌, ℕ, ◌≤◌, ◌-◌, max, List, Option, Some, None, inr, arith, subst, sym}
+use Rattle.std.proofs.Common.{ℕ, ◌≤◌, List, Option, Some, None, inr, arith}
 use Rattle.std.specs.Prelude.{IsSomeAnd, unwrap_or}
 use Rattle.minor_version.specs.Ranges.{IsEmulable}
 use Rattle.schemas.specs.Dated.{Dated}

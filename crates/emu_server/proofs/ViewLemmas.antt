@@ -1,6 +1,5 @@
 -- Gates that no text sets.
-use Rattle.std.proofs.Common.{◌≡◌, ℕ, List, [], All, refl, arith, subst, sym}
-use Rattle.flag_text.specs.Pieces.{pieces}
+use Rattle.std.proofs.Common.{List, [], All, arith}
 use Rattle.gate_spec.specs.declared.entry.GateEntry.{GateEntry}
 use Rattle.gate_flags.specs.Flags.{IsFeatureText}
 

@@ -2,7 +2,6 @@
 -- holds decides: the words, the history's text, the history's rules, the options in their order.
 use Rattle.std.specs.Prelude.{ℕ, ◌≡◌, ◌≢◌, ◌⊎◌, List, [], ◌∷◌, ◌++◌, unwrap_or}
 use Rattle.std.specs.declared.option.Option.{Option}
-use Rattle.serde_json.specs.Data.{Data}
 use Rattle.serde_json.specs.Written.{compact_text}
 use Rattle.gate_flags.specs.Flags.{IsFeatureText, IsTextFault}
 use Rattle.flag_text.specs.Pieces.{pieces}
