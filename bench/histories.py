@@ -91,6 +91,14 @@ def resource_entries():
         index += 1
 
 
+def group_entries():
+    """Groups of one version and one resource each."""
+    index = 0
+    while True:
+        yield introduced(f"group{index}.example", "v1", "widgets", 1)
+        index += 1
+
+
 def replaced_entries():
     """Versions that are deprecated in favour of v1, removed and forgotten."""
     for word in prerelease_words():
@@ -123,6 +131,7 @@ KINDS = {
     "one_gate": ("gate", lambda: ("", one_gate_entries(), "")),
     "versions": ("api", lambda: ("", version_entries(), "")),
     "resources": ("api", lambda: ("", resource_entries(), "")),
+    "groups": ("api", lambda: ("", group_entries(), "")),
     "one_replacement": ("api", one_replacement_parts),
     "bad_last": ("api", bad_last_parts),
 }
