@@ -11,92 +11,57 @@ use lifecycle::{ApiChange, ApiEntry, version_word};
 use minor_version::{Minor, Text, from_number};
 use schemas::{ApiList, Array, GateList, History, is_gate_name, is_group, is_kind, is_resource};
 use std::alloc::Global;
+use std::process::Abort;
 use std::test::Fail;
 
-/// A gate's name, the number of a release, and what happens to the gate then.
-type GateRow = (&'static str, u16, GateChange);
-
-/// A group, a version and a resource, the number of a release, and what happens to the version then.
-type ApiRow = (&'static str, &'static str, &'static str, u16, Event);
-
-#[derive(Clone, Copy)]
-enum Event {
-    /// The version comes with this kind.
-    New(&'static str),
-    /// The version is to go in this release, in favour of this one.
-    Old(u16, &'static str),
-    Removed,
-    Forgotten,
+// A gate's entry as words: its name, the number of a release, and what happens to it then.
+fn gate_change(word: &str) -> Result<GateChange, Fail> {
+    let (stage, default, locked) = match word {
+        "off" => (Stage::Alpha, false, false),
+        "alpha_on" => (Stage::Alpha, true, false),
+        "beta" => (Stage::Beta, true, false),
+        "beta_locked" => (Stage::Beta, true, true),
+        "ga" => (Stage::Ga, true, false),
+        "ga_off" => (Stage::Ga, false, false),
+        "locked" => (Stage::Ga, true, true),
+        "old_locked" => (Stage::Deprecated, false, true),
+        "gone" => return Ok(GateChange::Gone),
+        _ => return Err(Fail::new("no change of a gate")),
+    };
+    Ok(GateChange::Spec {
+        stage,
+        default,
+        locked,
+    })
 }
-
-const OFF: GateChange = GateChange::Spec {
-    stage: Stage::Alpha,
-    default: false,
-    locked: false,
-};
-
-const BETA: GateChange = GateChange::Spec {
-    stage: Stage::Beta,
-    default: true,
-    locked: false,
-};
-
-const GA: GateChange = GateChange::Spec {
-    stage: Stage::Ga,
-    default: true,
-    locked: false,
-};
-
-const LOCKED: GateChange = GateChange::Spec {
-    stage: Stage::Ga,
-    default: true,
-    locked: true,
-};
-
-const GONE: GateChange = GateChange::Gone;
-
-const ALPHA_ON: GateChange = GateChange::Spec {
-    stage: Stage::Alpha,
-    default: true,
-    locked: false,
-};
-
-const BETA_LOCKED: GateChange = GateChange::Spec {
-    stage: Stage::Beta,
-    default: true,
-    locked: true,
-};
-
-const GA_OFF: GateChange = GateChange::Spec {
-    stage: Stage::Ga,
-    default: false,
-    locked: false,
-};
-
-const OLD_LOCKED: GateChange = GateChange::Spec {
-    stage: Stage::Deprecated,
-    default: false,
-    locked: true,
-};
 
 fn release(k: u16) -> Result<Minor, Fail> {
     Ok(from_number(k).ok_or("no release")?)
 }
 
-fn change(alloc: Global, event: Event) -> Result<ApiChange, Fail> {
-    match event {
-        Event::New(kind) => Ok(ApiChange::Introduced {
-            kind: Text::from_str(alloc, kind)?,
+fn number(word: &str) -> Result<Minor, Fail> {
+    match word.parse::<u16>() {
+        Ok(k) => release(k),
+        Err(_) => Err(Fail::new("no number")),
+    }
+}
+
+// What happens to a version: it comes with a kind, is to go in a release in favour of another, or is gone.
+fn change(alloc: Global, word: &str, first: &str, second: &str) -> Result<ApiChange, Fail> {
+    match word {
+        "new" => Ok(ApiChange::Introduced {
+            kind: Text::from_str(alloc, first)?,
             singular: Text::from_str(alloc, "one")?,
             namespaced: true,
             enabled: true,
         }),
-        Event::Old(removal, replacement) => Ok(ApiChange::Deprecated {
-            removal: release(removal)?,
-            replacement: Text::from_str(alloc, replacement)?,
+        "old" => Ok(ApiChange::Deprecated {
+            removal: number(first)?,
+            replacement: Text::from_str(alloc, second)?,
         }),
-        Event::Removed => Ok(ApiChange::Removed),
-        Event::Forgotten => Ok(ApiChange::Forgotten),
+        "removed" => Ok(ApiChange::Removed),
+        "forgotten" => Ok(ApiChange::Forgotten),
+        _ => Err(Fail::new("no change of a version")),
     }
 }
 
@@ -132,72 +97,89 @@ fn is_shaped_change(change: &ApiChange) -> bool
     }
 }
 
-fn push_gate(alloc: Global, gates: &mut GateList, row: &GateRow) -> Result<(), Fail>
-    requires { AllByRecursion IsShapedGate gates.old }
-    ensures { AllByRecursion IsShapedGate gates.new }
+fn gate_entry(alloc: Global, text: &str) -> Result<GateEntry, Fail>
+    ensures { IfOk result IsShapedGate }
 {
+    let mut words = text.split_whitespace();
     let entry = GateEntry {
-        name: Text::from_str(alloc, row.0)?,
-        since: release(row.1)?,
-        change: row.2,
+        name: Text::from_str(alloc, words.next().unwrap_or(""))?,
+        since: number(words.next().unwrap_or(""))?,
+        change: gate_change(words.next().unwrap_or(""))?,
     };
     if !is_gate_name(entry.name.bytes()) {
         return Err(Fail::new("no gate name"));
     }
-    gates.push(alloc, entry)?;
-    Ok(())
+    Ok(entry)
 }
 
-fn gate_list(alloc: Global, rows: &[GateRow]) -> Result<GateList, Fail>
+fn gate_list(alloc: Global, text: &str) -> Result<GateList, Fail>
     ensures { IfOk result (AllByRecursion IsShapedGate) }
 {
     let mut gates = Sequence::new();
-    for row in rows {
-        match push_gate(alloc, &mut gates, row) {
-            Ok(()) => {}
+    for entry in text.split(", ") {
+        let entry = match gate_entry(alloc, entry) {
+            Ok(entry) => entry,
             Err(fail) => return Err(fail),
+        };
+        match gates.push(alloc, entry) {
+            Ok(()) => {}
+            Err(_) => return Err(Fail::new("out of memory")),
         }
     }
     Ok(gates)
 }
 
-fn push_api(alloc: Global, apis: &mut ApiList, row: &ApiRow) -> Result<(), Fail>
-    requires { AllByRecursion IsShapedApi apis.old }
-    ensures { AllByRecursion IsShapedApi apis.new }
+fn api_entry(alloc: Global, text: &str) -> Result<ApiEntry, Fail>
+    ensures { IfOk result IsShapedApi }
 {
+    let mut words = text.split_whitespace();
+    let group = words.next().unwrap_or("");
+    let group = if group == "core" { "" } else { group };
+    let version = words.next().unwrap_or("");
+    let resource = words.next().unwrap_or("");
+    let since = words.next().unwrap_or("");
+    let event = words.next().unwrap_or("");
+    let first = words.next().unwrap_or("");
+    let second = words.next().unwrap_or("");
     let entry = ApiEntry {
-        group: Text::from_str(alloc, row.0)?,
-        version: Text::from_str(alloc, row.1)?,
-        resource: Text::from_str(alloc, row.2)?,
-        since: release(row.3)?,
-        change: change(alloc, row.4)?,
+        group: Text::from_str(alloc, group)?,
+        version: Text::from_str(alloc, version)?,
+        resource: Text::from_str(alloc, resource)?,
+        since: number(since)?,
+        change: change(alloc, event, first, second)?,
     };
     if !is_shaped(&entry) {
         return Err(Fail::new("no entry of a version"));
     }
-    apis.push(alloc, entry)?;
-    Ok(())
+    Ok(entry)
 }
 
-fn api_list(alloc: Global, rows: &[ApiRow]) -> Result<ApiList, Fail>
+fn api_list(alloc: Global, text: &str) -> Result<ApiList, Fail>
     ensures { IfOk result (AllByRecursion IsShapedApi) }
 {
     let mut apis = Sequence::new();
-    for row in rows {
-        match push_api(alloc, &mut apis, row) {
-            Ok(()) => {}
+    for entry in text.split(", ") {
+        let entry = match api_entry(alloc, entry) {
+            Ok(entry) => entry,
             Err(fail) => return Err(fail),
+        };
+        match apis.push(alloc, entry) {
+            Ok(()) => {}
+            Err(_) => return Err(Fail::new("out of memory")),
         }
     }
     Ok(apis)
 }
 
-fn history(alloc: Global, gates: &[GateRow], apis: &[ApiRow]) -> Result<History, Fail> {
+fn history(gates: GateList, apis: ApiList) -> Result<History, Fail>
+    requires gates { AllByRecursion IsShapedGate gates }
+    requires apis { AllByRecursion IsShapedApi apis }
+{
     Ok(History {
         first: Some(release(28)?),
         last: Some(release(33)?),
-        gates: gate_list(alloc, gates)?,
-        apis: api_list(alloc, apis)?,
+        gates,
+        apis,
     })
 }
 
@@ -212,327 +194,137 @@ fn answer(alloc: Global, h: History) -> Result<(u8, Array, u64), Fail> {
 
 const LAWFUL: (u8, Array, u64) = (0, Array::Top, 0);
 
+// The answer with this rule and number, which is 0 and 0 for a lawful history.
+fn wanted(rule: u8, array: Array, number: u64) -> (u8, Array, u64) {
+    if rule == 0 {
+        LAWFUL
+    } else {
+        (rule, array, number)
+    }
+}
+
 #[test]
 fn gate_rules(rt: HostRuntime) -> Result<(), Fail> {
     let alloc = rt.alloc();
-    let none: [ApiRow; 0] = [];
-    let cases: [(&[GateRow], (u8, Array, u64)); 14] = [
-        (&[("A", 20, OFF), ("A", 33, BETA)], LAWFUL),
-        (&[("A", 28, OFF), ("A", 34, BETA)], (2, Array::Gate, 2)),
-        (
-            &[("A", 29, OFF), ("A", 28, OFF), ("B", 34, OFF)],
-            (2, Array::Gate, 3),
-        ),
-        (&[("A", 28, OFF), ("B", 28, OFF), ("A", 29, BETA)], LAWFUL),
-        (
-            &[("A", 28, OFF), ("B", 28, OFF), ("A", 28, BETA)],
-            (3, Array::Gate, 3),
-        ),
-        (
-            &[("A", 28, LOCKED), ("A", 31, GONE), ("A", 32, BETA)],
-            (3, Array::Gate, 3),
-        ),
-        (
-            &[("A", 28, OFF), ("A", 29, BETA_LOCKED)],
-            (4, Array::Gate, 2),
-        ),
-        (
-            &[("A", 28, OFF), ("B", 28, ALPHA_ON), ("C", 28, ALPHA_ON)],
-            (4, Array::Gate, 2),
-        ),
-        (&[("A", 28, BETA), ("A", 29, GA_OFF)], (4, Array::Gate, 2)),
-        (&[("A", 28, OLD_LOCKED)], LAWFUL),
-        (&[("A", 28, LOCKED), ("A", 31, GONE)], LAWFUL),
-        (&[("A", 28, LOCKED), ("A", 30, GONE)], (5, Array::Gate, 2)),
-        (&[("A", 28, GA), ("A", 31, GONE)], (5, Array::Gate, 2)),
-        (&[("B", 28, LOCKED), ("A", 33, GONE)], (5, Array::Gate, 2)),
-    ];
-    for (rows, wanted) in cases {
-        assert_eq!(rt; answer(alloc, history(alloc, rows, &none)?)?, wanted);
+    for (text, rule, number) in [
+        ("A 20 off, A 33 beta", 0, 0),
+        ("A 28 off, A 34 beta", 2, 2),
+        ("A 29 off, A 28 off, B 34 off", 2, 3),
+        ("A 28 off, B 28 off, A 29 beta", 0, 0),
+        ("A 28 off, B 28 off, A 28 beta", 3, 3),
+        ("A 28 locked, A 31 gone, A 32 beta", 3, 3),
+        ("A 28 off, A 29 beta_locked", 4, 2),
+        ("A 28 off, B 28 alpha_on, C 28 alpha_on", 4, 2),
+        ("A 28 beta, A 29 ga_off", 4, 2),
+        ("A 28 old_locked", 0, 0),
+        ("A 28 locked, A 31 gone", 0, 0),
+        ("A 28 locked, A 30 gone", 5, 2),
+        ("A 28 ga, A 31 gone", 5, 2),
+        ("B 28 locked, A 33 gone", 5, 2),
+    ] {
+        let h = history(gate_list(alloc, text)?, Sequence::new())?;
+        assert_eq!(rt; answer(alloc, h)?, wanted(rule, Array::Gate, number), "{text}");
+    }
+    Ok(())
+}
+
+fn api_answers(
+    rt: &impl Abort,
+    alloc: Global,
+    cases: &[(&str, u8, u64)],
+) -> Result<(), Fail> {
+    for (text, rule, number) in cases {
+        let h = history(Sequence::new(), api_list(alloc, text)?)?;
+        assert_eq!(rt; answer(alloc, h)?, wanted(*rule, Array::Api, *number), "{text}");
     }
     Ok(())
 }
 
 #[test]
 fn orders_and_kinds(rt: HostRuntime) -> Result<(), Fail> {
-    let alloc = rt.alloc();
-    let none: [GateRow; 0] = [];
-    let cases: [(&[ApiRow], (u8, Array, u64)); 13] = [
-        (
-            &[
-                ("g", "v1", "ws", 20, Event::New("W")),
-                ("g", "v1beta1", "ws", 33, Event::New("W")),
-            ],
-            LAWFUL,
-        ),
-        (
-            &[
-                ("g", "v1", "ws", 20, Event::New("W")),
-                ("g", "v1beta1", "ws", 34, Event::New("W")),
-            ],
-            (2, Array::Api, 2),
-        ),
-        (
-            &[
-                ("g", "v1beta1", "ws", 28, Event::New("W")),
-                ("g", "v1", "ws", 28, Event::New("W")),
-                ("g", "v1beta1", "ws", 29, Event::Old(32, "v1")),
-                ("g", "v1beta1", "ws", 32, Event::Removed),
-            ],
-            LAWFUL,
-        ),
-        (
-            &[
-                ("g", "v1", "ws", 28, Event::New("W")),
-                ("g", "v1beta1", "ws", 28, Event::New("W")),
-                ("g", "v1beta1", "ws", 28, Event::Old(31, "v1")),
-            ],
-            (6, Array::Api, 3),
-        ),
-        (
-            &[
-                ("g", "v1beta1", "ws", 28, Event::New("W")),
-                ("g", "v1beta1", "ws", 29, Event::Removed),
-            ],
-            (6, Array::Api, 2),
-        ),
-        (
-            &[
-                ("g", "v1", "ws", 28, Event::New("W")),
-                ("g", "v1beta1", "ws", 28, Event::New("W")),
-                ("g", "v1", "ws", 29, Event::New("W")),
-            ],
-            (6, Array::Api, 3),
-        ),
-        (
-            &[
-                ("g", "v1", "ws", 28, Event::New("W")),
-                ("g", "v1alpha1", "ws", 28, Event::New("W")),
-                ("g", "v1alpha1", "ws", 29, Event::Old(29, "v1")),
-                ("g", "v1alpha1", "ws", 29, Event::Removed),
-            ],
-            LAWFUL,
-        ),
-        (
-            &[
-                ("g", "v1", "ws", 28, Event::New("W")),
-                ("g", "v1alpha1", "ws", 28, Event::New("W")),
-                ("g", "v1alpha1", "ws", 29, Event::Old(29, "v1")),
-                ("g", "v1alpha1", "ws", 28, Event::Removed),
-            ],
-            (6, Array::Api, 4),
-        ),
-        (
-            &[
-                ("g", "v1beta1", "ws", 28, Event::New("W")),
-                ("g", "v1", "ws", 28, Event::New("W")),
-                ("g", "v1", "xs", 28, Event::New("W")),
-            ],
-            (7, Array::Api, 3),
-        ),
-        (
-            &[
-                ("g", "v1beta1", "ws", 28, Event::New("W")),
-                ("g", "v1", "ws", 28, Event::New("X")),
-            ],
-            (7, Array::Api, 2),
-        ),
-        (
-            &[
-                ("g", "v1", "ws", 28, Event::New("W")),
-                ("other", "v1", "xs", 28, Event::New("W")),
-            ],
-            LAWFUL,
-        ),
-        (
-            &[
-                ("g", "v1", "ws", 28, Event::New("W")),
-                ("g", "v1", "namespaces", 28, Event::New("N")),
-            ],
-            (7, Array::Api, 2),
-        ),
-        (
-            &[
-                ("", "v1", "pods", 28, Event::New("Pod")),
-                ("", "v2", "pods", 28, Event::New("Pod")),
-            ],
-            (7, Array::Api, 2),
-        ),
-    ];
-    for (rows, wanted) in cases {
-        assert_eq!(rt; answer(alloc, history(alloc, &none, rows)?)?, wanted);
-    }
-    Ok(())
+    api_answers(
+        &rt,
+        rt.alloc(),
+        &[
+            ("g v1 ws 20 new W, g v1beta1 ws 33 new W", 0, 0),
+            ("g v1 ws 20 new W, g v1beta1 ws 34 new W", 2, 2),
+            (
+                "g v1beta1 ws 28 new W, g v1 ws 28 new W, g v1beta1 ws 29 old 32 v1, g v1beta1 ws 32 removed",
+                0,
+                0,
+            ),
+            ("g v1 ws 28 new W, g v1beta1 ws 28 new W, g v1beta1 ws 28 old 31 v1", 6, 3),
+            ("g v1beta1 ws 28 new W, g v1beta1 ws 29 removed", 6, 2),
+            ("g v1 ws 28 new W, g v1beta1 ws 28 new W, g v1 ws 29 new W", 6, 3),
+            (
+                "g v1 ws 28 new W, g v1alpha1 ws 28 new W, g v1alpha1 ws 29 old 29 v1, g v1alpha1 ws 29 removed",
+                0,
+                0,
+            ),
+            (
+                "g v1 ws 28 new W, g v1alpha1 ws 28 new W, g v1alpha1 ws 29 old 29 v1, g v1alpha1 ws 28 removed",
+                6,
+                4,
+            ),
+            ("g v1beta1 ws 28 new W, g v1 ws 28 new W, g v1 xs 28 new W", 7, 3),
+            ("g v1beta1 ws 28 new W, g v1 ws 28 new X", 7, 2),
+            ("g v1 ws 28 new W, other v1 xs 28 new W", 0, 0),
+            ("g v1 ws 28 new W, g v1 namespaces 28 new N", 7, 2),
+            ("core v1 pods 28 new Pod, core v2 pods 28 new Pod", 7, 2),
+        ],
+    )
 }
 
 #[test]
 fn deprecations_and_removals(rt: HostRuntime) -> Result<(), Fail> {
-    let alloc = rt.alloc();
-    let none: [GateRow; 0] = [];
-    let cases: [(&[ApiRow], (u8, Array, u64)); 10] = [
-        (
-            &[
-                ("g", "v1", "ws", 28, Event::New("W")),
-                ("g", "v1beta1", "ws", 28, Event::New("W")),
-                ("g", "v1beta1", "ws", 29, Event::Old(31, "v1")),
-            ],
-            (8, Array::Api, 3),
-        ),
-        (
-            &[
-                ("g", "v1beta1", "ws", 28, Event::New("W")),
-                ("g", "v1beta1", "ws", 29, Event::Old(34, "v1")),
-                ("g", "v1", "ws", 29, Event::New("W")),
-            ],
-            LAWFUL,
-        ),
-        (
-            &[
-                ("g", "v1beta1", "ws", 28, Event::New("W")),
-                ("g", "v1beta1", "ws", 29, Event::Old(34, "v1")),
-                ("g", "v1", "ws", 30, Event::New("W")),
-            ],
-            (8, Array::Api, 2),
-        ),
-        (
-            &[
-                ("g", "v1", "ws", 28, Event::New("W")),
-                ("g", "v1beta1", "ws", 28, Event::New("W")),
-                ("g", "v1", "ws", 29, Event::Old(34, "v1beta1")),
-            ],
-            (8, Array::Api, 3),
-        ),
-        (
-            &[
-                ("g", "v1", "ws", 28, Event::New("W")),
-                ("g", "v1beta1", "ws", 28, Event::New("W")),
-                ("g", "v1beta1", "ws", 29, Event::Old(34, "v1beta1")),
-            ],
-            (8, Array::Api, 3),
-        ),
-        (
-            &[
-                ("g", "v1", "ws", 28, Event::New("W")),
-                ("g", "v1beta1", "ws", 28, Event::New("W")),
-                ("g", "v1beta1", "ws", 29, Event::Old(32, "v2")),
-            ],
-            (8, Array::Api, 3),
-        ),
-        (
-            &[
-                ("g", "v1", "ws", 28, Event::New("W")),
-                ("g", "v1beta1", "ws", 28, Event::New("W")),
-                ("g", "v1beta1", "ws", 29, Event::Old(33, "v1")),
-            ],
-            (9, Array::Api, 3),
-        ),
-        (
-            &[
-                ("g", "v1", "ws", 28, Event::New("W")),
-                ("g", "v1beta1", "ws", 28, Event::New("W")),
-                ("g", "v1beta1", "ws", 29, Event::Old(34, "v1")),
-            ],
-            LAWFUL,
-        ),
-        (
-            &[
-                ("g", "v1", "ws", 28, Event::New("W")),
-                ("g", "v1beta1", "ws", 28, Event::New("W")),
-                ("g", "v1beta1", "ws", 29, Event::Old(32, "v1")),
-                ("g", "v1beta1", "ws", 33, Event::Removed),
-            ],
-            (9, Array::Api, 4),
-        ),
-        (
-            &[
-                ("g", "v1", "ws", 28, Event::New("W")),
-                ("g", "v1beta1", "ws", 28, Event::New("W")),
-                ("g", "v1beta2", "ws", 28, Event::New("W")),
-                ("g", "v1beta1", "ws", 29, Event::Old(32, "v1beta2")),
-                ("g", "v1beta2", "ws", 29, Event::Old(32, "v1")),
-                ("g", "v1beta1", "ws", 32, Event::Removed),
-                ("g", "v1beta2", "ws", 32, Event::Removed),
-            ],
-            (9, Array::Api, 6),
-        ),
-    ];
-    for (rows, wanted) in cases {
-        assert_eq!(rt; answer(alloc, history(alloc, &none, rows)?)?, wanted);
-    }
-    Ok(())
+    api_answers(
+        &rt,
+        rt.alloc(),
+        &[
+            ("g v1 ws 28 new W, g v1beta1 ws 28 new W, g v1beta1 ws 29 old 31 v1", 8, 3),
+            ("g v1beta1 ws 28 new W, g v1beta1 ws 29 old 34 v1, g v1 ws 29 new W", 0, 0),
+            ("g v1beta1 ws 28 new W, g v1beta1 ws 29 old 34 v1, g v1 ws 30 new W", 8, 2),
+            ("g v1 ws 28 new W, g v1beta1 ws 28 new W, g v1 ws 29 old 34 v1beta1", 8, 3),
+            ("g v1 ws 28 new W, g v1beta1 ws 28 new W, g v1beta1 ws 29 old 34 v1beta1", 8, 3),
+            ("g v1 ws 28 new W, g v1beta1 ws 28 new W, g v1beta1 ws 29 old 32 v2", 8, 3),
+            ("g v1 ws 28 new W, g v1beta1 ws 28 new W, g v1beta1 ws 29 old 33 v1", 9, 3),
+            ("g v1 ws 28 new W, g v1beta1 ws 28 new W, g v1beta1 ws 29 old 34 v1", 0, 0),
+            (
+                "g v1 ws 28 new W, g v1beta1 ws 28 new W, g v1beta1 ws 29 old 32 v1, g v1beta1 ws 33 removed",
+                9,
+                4,
+            ),
+            (
+                "g v1 ws 28 new W, g v1beta1 ws 28 new W, g v1beta2 ws 28 new W, g v1beta1 ws 29 old 32 v1beta2, g v1beta2 ws 29 old 32 v1, g v1beta1 ws 32 removed, g v1beta2 ws 32 removed",
+                9,
+                6,
+            ),
+        ],
+    )
 }
+
+// A version and its successor, and a version before it that goes first.
+const SUCCESSION: &str = "g v1 ws 20 new W, g v1beta1 ws 20 new W, g v1alpha1 ws 20 new W, g v1alpha1 ws 21 old 21 v1beta1, g v1alpha1 ws 21 removed, g v1beta1 ws 22 old 25 v1, g v1beta1 ws 25 removed, g v1beta1 ws 28 forgotten";
 
 #[test]
 fn forgettings(rt: HostRuntime) -> Result<(), Fail> {
     let alloc = rt.alloc();
-    let none: [GateRow; 0] = [];
-    let cases: [(&[ApiRow], (u8, Array, u64)); 5] = [
-        (
-            &[
-                ("g", "v1", "ws", 20, Event::New("W")),
-                ("g", "v1beta1", "ws", 20, Event::New("W")),
-                ("g", "v1beta1", "ws", 21, Event::Old(24, "v1")),
-                ("g", "v1beta1", "ws", 24, Event::Removed),
-                ("g", "v1beta1", "ws", 27, Event::Forgotten),
-            ],
-            LAWFUL,
-        ),
-        (
-            &[
-                ("g", "v1", "ws", 20, Event::New("W")),
-                ("g", "v1beta1", "ws", 20, Event::New("W")),
-                ("g", "v1beta1", "ws", 21, Event::Old(24, "v1")),
-                ("g", "v1beta1", "ws", 24, Event::Removed),
-                ("g", "v1beta1", "ws", 26, Event::Forgotten),
-            ],
-            (10, Array::Api, 5),
-        ),
-        (
-            &[
-                ("g", "v1", "ws", 20, Event::New("W")),
-                ("g", "v1beta1", "ws", 20, Event::New("W")),
-                ("g", "v1alpha1", "ws", 20, Event::New("W")),
-                ("g", "v1alpha1", "ws", 21, Event::Old(21, "v1beta1")),
-                ("g", "v1alpha1", "ws", 21, Event::Removed),
-                ("g", "v1beta1", "ws", 22, Event::Old(25, "v1")),
-                ("g", "v1beta1", "ws", 25, Event::Removed),
-                ("g", "v1beta1", "ws", 28, Event::Forgotten),
-            ],
-            (10, Array::Api, 8),
-        ),
-        (
-            &[
-                ("g", "v1", "ws", 20, Event::New("W")),
-                ("g", "v1beta1", "ws", 20, Event::New("W")),
-                ("g", "v1alpha1", "ws", 20, Event::New("W")),
-                ("g", "v1alpha1", "ws", 21, Event::Old(21, "v1beta1")),
-                ("g", "v1alpha1", "ws", 21, Event::Removed),
-                ("g", "v1beta1", "ws", 22, Event::Old(25, "v1")),
-                ("g", "v1beta1", "ws", 25, Event::Removed),
-                ("g", "v1beta1", "ws", 28, Event::Forgotten),
-                ("g", "v1alpha1", "ws", 28, Event::Forgotten),
-            ],
-            LAWFUL,
-        ),
-        (
-            &[
-                ("g", "v1", "ws", 20, Event::New("W")),
-                ("g", "v1beta1", "ws", 20, Event::New("W")),
-                ("g", "v1alpha1", "ws", 20, Event::New("W")),
-                ("g", "v1alpha1", "ws", 21, Event::Old(21, "v1beta1")),
-                ("g", "v1alpha1", "ws", 21, Event::Removed),
-                ("g", "v1beta1", "ws", 22, Event::Old(25, "v1")),
-                ("g", "v1beta1", "ws", 25, Event::Removed),
-                ("g", "v1beta1", "ws", 28, Event::Forgotten),
-                ("g", "v1alpha1", "ws", 29, Event::Forgotten),
-            ],
-            (10, Array::Api, 8),
-        ),
-    ];
-    for (rows, wanted) in cases {
-        assert_eq!(rt; answer(alloc, history(alloc, &none, rows)?)?, wanted);
-    }
-    Ok(())
+    let late = format!(in alloc; "{SUCCESSION}, g v1alpha1 ws 29 forgotten")?;
+    let in_time = format!(in alloc; "{SUCCESSION}, g v1alpha1 ws 28 forgotten")?;
+    let one = "g v1 ws 20 new W, g v1beta1 ws 20 new W, g v1beta1 ws 21 old 24 v1, g v1beta1 ws 24 removed";
+    let after_two = format!(in alloc; "{one}, g v1beta1 ws 26 forgotten")?;
+    let after_three = format!(in alloc; "{one}, g v1beta1 ws 27 forgotten")?;
+    api_answers(
+        &rt,
+        rt.alloc(),
+        &[
+            (after_three.as_str(), 0, 0),
+            (after_two.as_str(), 10, 5),
+            (SUCCESSION, 10, 8),
+            (in_time.as_str(), 0, 0),
+            (late.as_str(), 10, 8),
+        ],
+    )
 }
 
 #[test]
