@@ -1,5 +1,5 @@
 -- A tree has one first fault, and conversion goes there and back.
-use Rattle.std.proofs.Common.{◌≡◌, ◌≢◌, inl, inr, ℕ, List, [], ◌∷◌, ◌++◌, map, Option, IfSome, refl, sym, ◌∙◌, ap, subst}
+use Rattle.std.proofs.Common.{◌≡◌, ◌≢◌, inl, inr, ℕ, List, [], ◌∷◌, ◌++◌, map, Option, IfSome, sym, ◌∙◌, ap, subst}
 use Rattle.std.specs.List.{AllByRecursion}
 use Rattle.std.proofs.lemmas.List.Elements.{recursion_from_All, All-from_recursion}
 use Rattle.fields.specs.Map.{IsMap, value_at}
@@ -15,14 +15,10 @@ use Rattle.conversion.specs.Laws.{HasOneFault, SpellTheSame, GoesThereAndBack, K
 use Rattle.conversion.specs.declared.mode.Mode.{Mode}
 use Rattle.conversion.specs.declared.mode.Mode.TheVariants.{Stored}
 use Rattle.conversion.specs.declared.fault.ReadCause.{ReadCause}
-use Rattle.conversion.proofs.TreeLemmas.{parted, blocked_or_empty, blocked_stands}
+use Rattle.conversion.proofs.TreeLemmas.{parted, blocked_or_empty, blocked_stands, no_last}
 use Rattle.conversion.proofs.ReadLemmas.{fault_refutes, reads_as_one}
 use Rattle.conversion.proofs.RoundLemmas.{reads_back}
 use Rattle.conversion.proofs.SameLemmas.{shows_as_one}
-
-no_last : {X : Type 0} (xs : List X) → xs ++ [] ≡ xs
-no_last [] = refl
-no_last (x ∷ xs) = ap (λ ys. x ∷ ys) (no_last xs)
 
 -- ---- one fault
 

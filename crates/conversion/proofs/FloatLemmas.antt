@@ -17,7 +17,7 @@ use Rattle.conversion.specs.Trees.{Names, Stands, IsObject}
 use Rattle.conversion.specs.Writing.{IsWrittenIn}
 use Rattle.conversion.specs.Reading.{IsHeld}
 use Rattle.conversion.specs.Showing.{Shows, IsInOrder, AreInOrder, names_of}
-use Rattle.conversion.proofs.TreeLemmas.{stands_one, stands_split, object_from_get}
+use Rattle.conversion.proofs.TreeLemmas.{stands_one, stands_split, object_from_get, no_last}
 use Rattle.conversion.proofs.MemberLemmas.{skips}
 use Rattle.conversion.proofs.SameLemmas.{here, later}
 
@@ -74,10 +74,6 @@ mutual
 held_plain : (tree : Data) (row : FieldRow) (o : Option FieldValue) → IfSome o (IsHeld tree row) → IsSome o → (json : Data) × Stands tree row.path json × (has_float json ≡ false)
 held_plain tree row None h some = absurd cc
 held_plain tree row (Some v) h some = (h.json, h.stands, written_plain row.form v h.json h.spelled.written)
-
-no_last : {X : Type 0} (xs : List X) → xs ++ [] ≡ xs
-no_last [] = refl
-no_last (x ∷ xs) = ap (λ ys. x ∷ ys) (no_last xs)
 
 at_end : (tree : Data) (path rest : Names) (there json : Data) → Stands tree path there → ¬ IsObject there → Stands tree (path ++ rest) json → has_float json ≡ false → has_float there ≡ false
 at_end tree path [] there json stands other at plain =

@@ -7,7 +7,7 @@ use Rattle.serde_json.specs.Find.{get, get_member}
 use Rattle.conversion.specs.Trees.{Names, Stands, IsObject}
 use Rattle.conversion.specs.Code.{get_in, IsPlaced}
 use Rattle.conversion.proofs.WritingLemmas.{IsLeaf}
-use Rattle.conversion.proofs.TreeLemmas.{object_from_get}
+use Rattle.conversion.proofs.TreeLemmas.{object_from_get, no_last, some_one}
 use Rattle.conversion.proofs.RoundLemmas.{ArePartedPaths}
 
 same_name : (a b : List ℕ) → (a ≡ b) ⊎ (a ≢ b)
@@ -20,9 +20,6 @@ same_name a b = by (bytes_eq a b) refl
 -- there is a tree, and it has this at the path
 abbrev pub StandsIn : Option Data → Names → Data → Type 0
 StandsIn tree path there = (whole : Data) × (tree ≡ Some whole) × Stands whole path there
-
-one_member : {X : Type 0} (o : Option X) (x y : X) → o ≡ Some x → o ≡ Some y → x ≡ y
-one_member o x y h k = cc
 
 within_tree : (name : List ℕ) (tree : Option Data) (inner : Data) → get_in name tree ≡ Some inner → (whole : Data) × (tree ≡ Some whole) × (get name whole ≡ Some inner)
 within_tree name None inner h = absurd cc
@@ -65,7 +62,7 @@ placed_only (name ∷ path) (other ∷ q) json old new there h k =
     let at_other : get_member other h.0 ≡ Some k.0 = subst (λ t. get other t ≡ Some k.0) h.1 k.1 in
     elim (same_name other name) [
       | inl same ↦
-          let inner : k.0 ≡ h.3 = one_member (get_member name h.0) k.0 h.3 (subst (λ n. get_member n h.0 ≡ Some k.0) same at_other) h.4 in
+          let inner : k.0 ≡ h.3 = some_one (get_member name h.0) k.0 h.3 (subst (λ n. get_member n h.0 ≡ Some k.0) same at_other) h.4 in
           elim (placed_only path q json (get_in name old) h.3 there h.5 (subst (λ t. Stands t q there) inner k.2)) [
             | inl r ↦ inl (r.0, ap₂ (λ x xs. x ∷ xs) (sym same) r.1)
             | inr (inl r) ↦ inr (inl (r.0, ap₂ (λ x xs. x ∷ xs) same r.1, r.2))
@@ -81,10 +78,6 @@ placed_only (name ∷ path) (other ∷ q) json old new there h k =
 leaf_alone : (json : Data) (rest : Names) (there : Data) → IsLeaf json → Stands json rest there → rest ≡ []
 leaf_alone json [] there leaf h = refl
 leaf_alone json (name ∷ rest) there leaf h = let o = object_from_get name json h.0 h.1 in absurd (subst IsLeaf o.1 leaf)
-
-no_last : {X : Type 0} (xs : List X) → xs ++ [] ≡ xs
-no_last [] = refl
-no_last (x ∷ xs) = ap (λ ys. x ∷ ys) (no_last xs)
 
 pub placed_least : (path q : Names) (json : Data) (old : Option Data) (new there : Data) → IsLeaf json → IsPlaced path json old new → Stands new q there → LeadsThrough path q ⊎ StandsIn old q there
 placed_least path q json old new there leaf h k = elim (placed_only path q json old new there h k) [

@@ -14,7 +14,7 @@ use Rattle.conversion.specs.Trees.{Names, Stands, IsObject, IsAbsent}
 use Rattle.conversion.specs.Reading.{IsHeld, IsRead, Reads}
 use Rattle.conversion.specs.Showing.{IsOf, Shows}
 use Rattle.conversion.specs.declared.mode.Mode.TheVariants.{Stored}
-use Rattle.conversion.proofs.TreeLemmas.{stands_one, stands_split, object_from_get, stands_or_ends}
+use Rattle.conversion.proofs.TreeLemmas.{stands_one, stands_split, object_from_get, stands_or_ends, no_last}
 
 -- neither path leads through the other
 abbrev pub ArePartedPaths : Names → Names → Type 0
@@ -45,10 +45,6 @@ no_way rows held i d apart below none k x within is some =
           absurd (none_not_some (value_at held (get_or rows i d).id) (value_at held x.id) (ap (λ (r : FieldRow). value_at held r.id) row) none some)
       | inr parted ↦ subst (λ (r : FieldRow). ArePartedPaths (get_or rows i d).path r.path) there parted
     ]
-
-no_last : {X : Type 0} (xs : List X) → xs ++ [] ≡ xs
-no_last [] = refl
-no_last (x ∷ xs) = ap (λ ys. x ∷ ys) (no_last xs)
 
 held_stands : (tree : Data) (row : FieldRow) (o : Option FieldValue) → IfSome o (IsHeld tree row) → IsSome o → (json : Data) × Stands tree row.path json
 held_stands tree row None h some = absurd cc

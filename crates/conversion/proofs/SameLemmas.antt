@@ -15,7 +15,7 @@ use Rattle.serde_json.specs.Find.{get_member}
 use Rattle.conversion.specs.Trees.{Names, Stands, IsObject}
 use Rattle.conversion.specs.Reading.{IsHeld}
 use Rattle.conversion.specs.Showing.{Shows, IsInOrder, AreInOrder, names_of}
-use Rattle.conversion.proofs.TreeLemmas.{stands_one, stands_split, object_from_get}
+use Rattle.conversion.proofs.TreeLemmas.{stands_one, stands_split, object_from_get, no_last, some_one, not_both}
 use Rattle.conversion.proofs.WritingLemmas.{one_json}
 use Rattle.conversion.proofs.MemberLemmas.{skips}
 
@@ -26,12 +26,6 @@ AgreesBelow a b = (path : Names) (there : Data) → Stands a path there → (oth
 abbrev pub MembersAgree : Members → Members → Type 0
 MembersAgree ms ns = (name : List ℕ) (inner : Data) → get_member name ms ≡ Some inner → (other : Data) × (get_member name ns ≡ Some other) × AgreesBelow inner other
 
-one_found : {X : Type 0} (o : Option X) (x y : X) → o ≡ Some x → o ≡ Some y → x ≡ y
-one_found o x y h k = cc
-
-not_both : {X : Type 0} (o : Option X) (x : X) → o ≡ None → o ≡ Some x → ⊥
-not_both o x h k = cc
-
 members_agree : (ms ns : Members) → AgreesBelow (object ms) (object ns) → MembersAgree ms ns
 members_agree ms ns h name inner found =
     let at = h (name ∷ []) inner (inner, found, refl) in (
@@ -39,7 +33,7 @@ members_agree ms ns h name inner found =
       at.1.1,
       λ path there stands.
           let deep = h (name ∷ path) there (inner, found, stands) in
-          let same : deep.1.0 ≡ at.1.0 = one_found (get_member name ns) deep.1.0 at.1.0 deep.1.1 at.1.1 in
+          let same : deep.1.0 ≡ at.1.0 = some_one (get_member name ns) deep.1.0 at.1.0 deep.1.1 at.1.1 in
           (deep.0, subst (λ t. Stands t path deep.0) same deep.1.2, deep.2),
     )
 
@@ -63,7 +57,7 @@ tails_agree k l d e ms ns same above h name inner found =
 heads_agree : (k l : List ℕ) (d e : Data) (ms ns : Members) → k ≡ l → MembersAgree (member k d ms) (member l e ns) → AgreesBelow d e
 heads_agree k l d e ms ns same h =
     let at = h k d (here k d ms) in
-    let is : at.0 ≡ e = one_found (get_member k (member l e ns)) at.0 e at.1 (subst (λ n. get_member n (member l e ns) ≡ Some e) (sym same) (here l e ns)) in
+    let is : at.0 ≡ e = some_one (get_member k (member l e ns)) at.0 e at.1 (subst (λ n. get_member n (member l e ns) ≡ Some e) (sym same) (here l e ns)) in
     subst (AgreesBelow d) is at.2
 
 members_at : (o : Ordering) (k l : List ℕ) (d e : Data) (ms ns : Members) → slice_cmp nat_cmp k l ≡ o → Rises (names_of (member k d ms)) → Rises (names_of (member l e ns)) → MembersAgree (member k d ms) (member l e ns)
@@ -118,10 +112,6 @@ held_once row a b None h k some = absurd cc
 held_once row a b (Some v) h k some =
     let same : k.json ≡ h.json = one_json row.form v k.json h.json k.spelled.written h.spelled.written in
     (h.json, h.stands, subst (Stands b row.path) same k.stands)
-
-no_last : {X : Type 0} (xs : List X) → xs ++ [] ≡ xs
-no_last [] = refl
-no_last (x ∷ xs) = ap (λ ys. x ∷ ys) (no_last xs)
 
 agrees_at : (a b : Data) (path rest : Names) (there json : Data) → Stands a path there → Stands a (path ++ rest) json → Stands b (path ++ rest) json → (other : Data) × Stands b path other × ((there ≡ other) ⊎ (IsObject there × IsObject other))
 agrees_at a b path [] there json h in_a in_b =

@@ -4,7 +4,7 @@ use Rattle.serde_json.specs.Data.{Data, null, boolean, number, string, array, ob
 use Rattle.serde_json.specs.Find.{get}
 use Rattle.conversion.specs.Trees.{Names, Stands, IsObject, IsAbsent, IsBlocked}
 
-some_one : {X : Type 0} (o : Option X) (x y : X) → o ≡ Some x → o ≡ Some y → x ≡ y
+pub some_one : {X : Type 0} (o : Option X) (x y : X) → o ≡ Some x → o ≡ Some y → x ≡ y
 some_one o x y h k = cc
 
 pub not_both : {X : Type 0} (o : Option X) (x : X) → o ≡ None → o ≡ Some x → ⊥
@@ -71,9 +71,9 @@ blocked_or_empty tree upto (name ∷ rest) there d h other k =
 pub blocked_stands : (tree : Data) (path upto : Names) (d : Data) → IsBlocked tree path upto → Stands tree path d → ⊥
 blocked_stands tree path upto d h k = h.more (blocked_or_empty tree upto h.rest h.there d h.stands h.not_object (subst (λ p. Stands tree p d) h.parts k))
 
-no_middle : {X : Type 0} (xs : List X) → xs ++ [] ≡ xs
-no_middle [] = refl
-no_middle (x ∷ xs) = ap (λ ys. x ∷ ys) (no_middle xs)
+pub no_last : {X : Type 0} (xs : List X) → xs ++ [] ≡ xs
+no_last [] = refl
+no_last (x ∷ xs) = ap (λ ys. x ∷ ys) (no_last xs)
 
 pub blocked_absent : (tree : Data) (path upto : Names) → IsBlocked tree path upto → IsAbsent tree path → ⊥
 blocked_absent tree path upto h k =
@@ -81,7 +81,7 @@ blocked_absent tree path upto h k =
       -- the missing member is below what blocks
       | inl r ↦
           let none : r.0 ≡ [] = blocked_or_empty tree upto r.0 h.there k.within h.stands h.not_object (subst (λ p. Stands tree p k.within) r.1 k.stands) in
-          let same_front : k.front ≡ upto = r.1 ∙ ap (λ x. upto ++ x) none ∙ no_middle upto in
+          let same_front : k.front ≡ upto = r.1 ∙ ap (λ x. upto ++ x) none ∙ no_last upto in
           let same : k.within ≡ h.there = stands_one tree upto k.within h.there (subst (λ p. Stands tree p k.within) same_front k.stands) h.stands in
           elim k.object [ inl empty ↦ h.some (sym same_front ∙ empty) | inr is ↦ h.not_object (subst IsObject same is) ]
       -- what blocks is below the missing member
