@@ -2,3 +2,4 @@ pub mod DedupLemmas
 pub mod GroupLemmas
 pub mod ServedLemmas
 pub mod PageLemmas
+pub mod ListedLemmas

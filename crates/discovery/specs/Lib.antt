@@ -4,3 +4,4 @@ pub mod Order
 pub mod Resources
 pub mod Metrics
 pub mod Releases
+pub mod Laws

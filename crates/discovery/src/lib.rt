@@ -4,6 +4,7 @@
 
 mod gates;
 mod groups;
+mod law;
 mod releases;
 mod resources;
 #[cfg(test)]
@@ -12,5 +13,6 @@ mod text;
 
 pub use gates::metrics;
 pub use groups::{group, group_list};
+pub use law::groups_are_exact;
 pub use releases::version_info;
 pub use resources::resource_list;

@@ -1,0 +1,13 @@
+-- Which groups and versions the documents list.
+use Rattle.std.specs.Prelude.{◌≡◌, ◌≢◌, ◌↔◌, ℕ, List, [], Any, Contains}
+use Rattle.std.specs.Cmp.Lexicographic.{slice_cmp}
+use Rattle.std.specs.Ordering.{nat_cmp}
+use Rattle.std.specs.List.Sorted.{IsStrictlySortedBy}
+use Rattle.release_view.specs.declared.served.ServedVersion.{ServedVersion}
+use Rattle.discovery.specs.Groups.{names_in, versions_in}
+
+-- the groups with a served version, but the core group, each once and in order of bytes; of each group exactly its served versions
+pub record AreListed (served : List ServedVersion) : Type 0 where
+  pub order : IsStrictlySortedBy (slice_cmp nat_cmp) (names_in served)
+  pub exact : (group : List ℕ) → Contains (names_in served) group ↔ ((group ≢ []) × Any (λ s. s.group ≡ group) served)
+  pub versions : (group version : List ℕ) → Contains (versions_in served group) version ↔ Any (λ s. (s.group ≡ group) × (s.version ≡ version)) served
