@@ -3,3 +3,4 @@ pub mod GroupLemmas
 pub mod ServedLemmas
 pub mod PageLemmas
 pub mod ListedLemmas
+pub mod StableLemmas

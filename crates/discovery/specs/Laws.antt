@@ -1,8 +1,13 @@
 -- Which groups and versions the documents list.
-use Rattle.std.specs.Prelude.{◌≡◌, ◌≢◌, ◌↔◌, ℕ, List, [], Any, Contains}
+use Rattle.std.specs.Prelude.{◌≡◌, ◌≢◌, ◌↔◌, ℕ, List, [], map, Any, Contains}
 use Rattle.std.specs.Cmp.Lexicographic.{slice_cmp}
 use Rattle.std.specs.Ordering.{nat_cmp}
 use Rattle.std.specs.List.Sorted.{IsStrictlySortedBy}
+use Rattle.lifecycle.specs.Stability.{by_stability}
+use Rattle.lifecycle.specs.Version.{word_text}
+use Rattle.lifecycle.specs.declared.version.VersionWord.{VersionWord}
+use Rattle.release_view.specs.Served.{served_of}
+use Rattle.release_view.specs.declared.known.KnownVersion.{KnownVersion}
 use Rattle.release_view.specs.declared.served.ServedVersion.{ServedVersion}
 use Rattle.discovery.specs.Groups.{names_in, versions_in}
 
@@ -11,3 +16,11 @@ pub record AreListed (served : List ServedVersion) : Type 0 where
   pub order : IsStrictlySortedBy (slice_cmp nat_cmp) (names_in served)
   pub exact : (group : List ℕ) → Contains (names_in served) group ↔ ((group ≢ []) × Any (λ s. s.group ≡ group) served)
   pub versions : (group version : List ℕ) → Contains (versions_in served group) version ↔ Any (λ s. (s.group ≡ group) × (s.version ≡ version)) served
+
+-- the texts are those of version words, the most stable first
+abbrev pub AreStable : List (List ℕ) → Type 0
+AreStable texts = (words : List VersionWord) × IsStrictlySortedBy by_stability words × (map word_text words ≡ texts)
+
+-- in the view of a release the versions of a group stand in order of stability
+abbrev pub ListsStable : List KnownVersion → Type 0
+ListsStable versions = (group : List ℕ) → AreStable (versions_in (served_of versions) group)

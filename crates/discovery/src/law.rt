@@ -1,7 +1,11 @@
 ghost use Rattle.release_view.specs.Served.{served_of};
-ghost use Rattle.discovery.specs.Laws.{AreListed};
+ghost use Rattle.release_view.specs.Views.{IsViewOf};
+ghost use Rattle.discovery.specs.Laws.{AreListed, ListsStable};
 
+use lifecycle::ApiEntry;
+use minor_version::Minor;
 use release_view::View;
+use runtime_config::Enabled;
 
 /// The documents list exactly the groups with a served version, but the core group, each once and in order of bytes, and
 /// of each group exactly its served versions. Nothing is computed here; the law is the contract.
@@ -9,4 +13,12 @@ pub fn groups_are_exact(view: &View)
     ensures { AreListed (served_of view.now.versions) }
 {
     let _served = view.served();
+}
+
+/// The documents of a release list the versions of a group in order of stability.
+pub fn versions_are_stable(view: &View, apis: &[ApiEntry], e: Minor, on: &Enabled)
+    requires { IsViewOf apis.now e view.now.gates on.now view.now }
+    ensures { ListsStable view.now.versions }
+{
+    let _view = view;
 }

@@ -13,6 +13,6 @@ mod text;
 
 pub use gates::metrics;
 pub use groups::{group, group_list};
-pub use law::groups_are_exact;
+pub use law::{groups_are_exact, versions_are_stable};
 pub use releases::version_info;
 pub use resources::resource_list;
