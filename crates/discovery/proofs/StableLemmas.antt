@@ -13,7 +13,7 @@ use Rattle.std.proofs.lemmas.Slice.Eq.{bytes_eq-Decides}
 use Rattle.lifecycle.specs.Stability.{by_stability}
 use Rattle.lifecycle.specs.Version.{IsWord, word_text}
 use Rattle.lifecycle.specs.declared.version.VersionWord.{VersionWord}
-use Rattle.lifecycle.proofs.WordLemmas.{exact_words}
+use Rattle.lifecycle.proofs.WordLemmas.{word_text_injective, exact_words}
 use Rattle.release_view.specs.Known.{AreInPlace, by_place}
 use Rattle.release_view.specs.Order.{by_stability_total}
 use Rattle.release_view.specs.Served.{served_of}
@@ -21,6 +21,7 @@ use Rattle.release_view.specs.declared.known.KnownVersion.{KnownVersion}
 use Rattle.release_view.specs.declared.served.ServedVersion.{ServedVersion}
 use Rattle.discovery.specs.Groups.{is_in, versions_in}
 use Rattle.discovery.specs.Laws.{AreStable}
+use Rattle.discovery.specs.Resources.{resources_in}
 
 pub record IsSpelled (v : KnownVersion) : Type 0 where
   pub lawful : IsWord v.word
@@ -133,3 +134,59 @@ module _ (g : List ℕ) where
   stable vs place spelled =
       let r = words_of (filter own vs) (own_spelled vs spelled) (own_rise vs place) in
       (r.0, r.1, r.2 ∙ ap (dedup bytes_eq) (sym (own_texts vs)))
+
+-- ---- the resources of a version
+
+strict_texts : (k : List ℕ) (ks : List (List ℕ)) → AllByRecursion (λ y. slice_cmp nat_cmp k y ≡ Less) ks → IsStrictlySortedBy (slice_cmp nat_cmp) ks → IsStrictlySortedBy (slice_cmp nat_cmp) (k ∷ ks)
+unfolding IsStrictlySortedBy
+strict_texts k ks h g = (h, g)
+
+no_texts : IsStrictlySortedBy (slice_cmp nat_cmp) []
+unfolding IsStrictlySortedBy
+no_texts = tt
+
+third_less : (o p q : Ordering) → o ≡ Equal → p ≡ Equal → ordering_then (ordering_then o p) q ≡ Less → q ≡ Less
+third_less Equal Equal q a b less = less
+third_less Equal Less q a b less = let clash : Less ≡ Equal = b in cc
+third_less Equal Greater q a b less = let clash : Greater ≡ Equal = b in cc
+third_less Less p q a b less = let clash : Less ≡ Equal = a in cc
+third_less Greater p q a b less = let clash : Greater ≡ Equal = a in cc
+
+module _ (g t : List ℕ) where
+  abbrev of : KnownVersion → Bool
+  of v = bytes_eq v.table.group g && bytes_eq v.table.version t
+
+  of_parts : (v : KnownVersion) → of v ≡ true → (v.table.group ≡ g) × (v.table.version ≡ t)
+  of_parts v h = let (a, b) = and_parts (bytes_eq v.table.group g) (bytes_eq v.table.version t) h in ((bytes_eq-Decides v.table.group g).0 a, (bytes_eq-Decides v.table.version t).0 b)
+
+  abbrev names : List KnownVersion → List (List ℕ)
+  names vs = map (λ (s : ServedVersion). s.resource) (resources_in (served_of vs) g t)
+
+  resource_less : (x y : KnownVersion) → IsSpelled x → IsSpelled y → of x ≡ true → of y ≡ true → by_place x y ≡ Less → slice_cmp nat_cmp x.table.resource y.table.resource ≡ Less
+  resource_less x y p q a b less =
+      let (gx, tx) = of_parts x a in
+      let (gy, ty) = of_parts y b in
+      let word : x.word ≡ y.word = word_text_injective x.word y.word p.lawful q.lawful (sym p.text ∙ tx ∙ sym ty ∙ q.text) in
+      let groups : slice_cmp nat_cmp x.table.group y.table.group ≡ Equal = ap (slice_cmp nat_cmp x.table.group) (gy ∙ sym gx) ∙ tied_itself nat_list_cmp_total x.table.group in
+      let words : by_stability x.word y.word ≡ Equal = ap (by_stability x.word) (sym word) ∙ tied_itself by_stability_total x.word in
+      third_less _ _ _ groups words less
+
+  names_later : (x : KnownVersion) (vs : List KnownVersion) → IsSpelled x → AllByRecursion IsSpelled vs → of x ≡ true → AllByRecursion (λ y. by_place x y ≡ Less) vs → AllByRecursion (λ r. slice_cmp nat_cmp x.table.resource r ≡ Less) (names vs)
+  names_later x [] p all a h = tt
+  names_later x (v ∷ vs) p all a h = elim (cases_Bool v.served) [
+    | inr off ↦ rw off (names_later x vs p all.1 a h.1)
+    | inl on ↦ elim (cases_Bool (of v)) [
+      | inl is ↦ rw (on, is) (resource_less x v p all.0 a is h.0, names_later x vs p all.1 a h.1)
+      | inr other ↦ rw (on, other) (names_later x vs p all.1 a h.1)
+    ]
+  ]
+
+  pub names_rise : (vs : List KnownVersion) → AreInPlace vs → AllByRecursion IsSpelled vs → IsStrictlySortedBy (slice_cmp nat_cmp) (names vs)
+  names_rise [] h all = no_texts
+  names_rise (v ∷ vs) h all = elim (cases_Bool v.served) [
+    | inr off ↦ rw off (names_rise vs (sorted_tail by_place v vs h) all.1)
+    | inl on ↦ elim (cases_Bool (of v)) [
+      | inl is ↦ rw (on, is) (strict_texts v.table.resource (names vs) (names_later v vs all.0 all.1 is (sorted_head by_place v vs h)) (names_rise vs (sorted_tail by_place v vs h) all.1))
+      | inr other ↦ rw (on, other) (names_rise vs (sorted_tail by_place v vs h) all.1)
+    ]
+  ]

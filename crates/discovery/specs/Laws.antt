@@ -10,6 +10,7 @@ use Rattle.release_view.specs.Served.{served_of}
 use Rattle.release_view.specs.declared.known.KnownVersion.{KnownVersion}
 use Rattle.release_view.specs.declared.served.ServedVersion.{ServedVersion}
 use Rattle.discovery.specs.Groups.{names_in, versions_in}
+use Rattle.discovery.specs.Resources.{resources_in}
 
 -- the groups with a served version, but the core group, each once and in order of bytes; of each group exactly its served versions
 pub record AreListed (served : List ServedVersion) : Type 0 where
@@ -21,6 +22,7 @@ pub record AreListed (served : List ServedVersion) : Type 0 where
 abbrev pub AreStable : List (List ℕ) → Type 0
 AreStable texts = (words : List VersionWord) × IsStrictlySortedBy by_stability words × (map word_text words ≡ texts)
 
--- in the view of a release the versions of a group stand in order of stability
-abbrev pub ListsStable : List KnownVersion → Type 0
-ListsStable versions = (group : List ℕ) → AreStable (versions_in (served_of versions) group)
+-- in the view of a release the versions of a group stand in order of stability, and the resources of a version in order of bytes
+pub record ListsInOrder (known : List KnownVersion) : Type 0 where
+  pub versions : (group : List ℕ) → AreStable (versions_in (served_of known) group)
+  pub resources : (group version : List ℕ) → IsStrictlySortedBy (slice_cmp nat_cmp) (map (λ s. s.resource) (resources_in (served_of known) group version))

@@ -1,6 +1,6 @@
 ghost use Rattle.release_view.specs.Served.{served_of};
 ghost use Rattle.release_view.specs.Views.{IsViewOf};
-ghost use Rattle.discovery.specs.Laws.{AreListed, ListsStable};
+ghost use Rattle.discovery.specs.Laws.{AreListed, ListsInOrder};
 
 use lifecycle::ApiEntry;
 use minor_version::Minor;
@@ -15,10 +15,11 @@ pub fn groups_are_exact(view: &View)
     let _served = view.served();
 }
 
-/// The documents of a release list the versions of a group in order of stability.
-pub fn versions_are_stable(view: &View, apis: &[ApiEntry], e: Minor, on: &Enabled)
+/// The documents of a release list the versions of a group in order of stability, and the resources of a version in
+/// order of bytes.
+pub fn lists_are_in_order(view: &View, apis: &[ApiEntry], e: Minor, on: &Enabled)
     requires { IsViewOf apis.now e view.now.gates on.now view.now }
-    ensures { ListsStable view.now.versions }
+    ensures { ListsInOrder view.now.versions }
 {
     let _view = view;
 }

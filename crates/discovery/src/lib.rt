@@ -13,6 +13,6 @@ mod text;
 
 pub use gates::metrics;
 pub use groups::{group, group_list};
-pub use law::{groups_are_exact, versions_are_stable};
+pub use law::{groups_are_exact, lists_are_in_order};
 pub use releases::version_info;
 pub use resources::resource_list;
