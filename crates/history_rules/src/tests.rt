@@ -223,19 +223,23 @@ fn gate_rules(rt: HostRuntime) -> Result<(), Fail> {
         ("B 28 locked, A 33 gone", 5, 2),
     ] {
         let h = history(gate_list(alloc, text)?, Sequence::new())?;
-        assert_eq!(rt; answer(alloc, h)?, wanted(rule, Array::Gate, number), "{text}");
+        assert_eq!(rt;
+            answer(alloc, h)?,
+            wanted(rule, Array::Gate, number),
+            "{text}"
+        );
     }
     Ok(())
 }
 
-fn api_answers(
-    rt: &impl Abort,
-    alloc: Global,
-    cases: &[(&str, u8, u64)],
-) -> Result<(), Fail> {
+fn api_answers(rt: &impl Abort, alloc: Global, cases: &[(&str, u8, u64)]) -> Result<(), Fail> {
     for (text, rule, number) in cases {
         let h = history(Sequence::new(), api_list(alloc, text)?)?;
-        assert_eq!(rt; answer(alloc, h)?, wanted(*rule, Array::Api, *number), "{text}");
+        assert_eq!(rt;
+            answer(alloc, h)?,
+            wanted(*rule, Array::Api, *number),
+            "{text}"
+        );
     }
     Ok(())
 }
@@ -253,9 +257,17 @@ fn orders_and_kinds(rt: HostRuntime) -> Result<(), Fail> {
                 0,
                 0,
             ),
-            ("g v1 ws 28 new W, g v1beta1 ws 28 new W, g v1beta1 ws 28 old 31 v1", 6, 3),
+            (
+                "g v1 ws 28 new W, g v1beta1 ws 28 new W, g v1beta1 ws 28 old 31 v1",
+                6,
+                3,
+            ),
             ("g v1beta1 ws 28 new W, g v1beta1 ws 29 removed", 6, 2),
-            ("g v1 ws 28 new W, g v1beta1 ws 28 new W, g v1 ws 29 new W", 6, 3),
+            (
+                "g v1 ws 28 new W, g v1beta1 ws 28 new W, g v1 ws 29 new W",
+                6,
+                3,
+            ),
             (
                 "g v1 ws 28 new W, g v1alpha1 ws 28 new W, g v1alpha1 ws 29 old 29 v1, g v1alpha1 ws 29 removed",
                 0,
@@ -266,7 +278,11 @@ fn orders_and_kinds(rt: HostRuntime) -> Result<(), Fail> {
                 6,
                 4,
             ),
-            ("g v1beta1 ws 28 new W, g v1 ws 28 new W, g v1 xs 28 new W", 7, 3),
+            (
+                "g v1beta1 ws 28 new W, g v1 ws 28 new W, g v1 xs 28 new W",
+                7,
+                3,
+            ),
             ("g v1beta1 ws 28 new W, g v1 ws 28 new X", 7, 2),
             ("g v1 ws 28 new W, other v1 xs 28 new W", 0, 0),
             ("g v1 ws 28 new W, g v1 namespaces 28 new N", 7, 2),
@@ -281,14 +297,46 @@ fn deprecations_and_removals(rt: HostRuntime) -> Result<(), Fail> {
         &rt,
         rt.alloc(),
         &[
-            ("g v1 ws 28 new W, g v1beta1 ws 28 new W, g v1beta1 ws 29 old 31 v1", 8, 3),
-            ("g v1beta1 ws 28 new W, g v1beta1 ws 29 old 34 v1, g v1 ws 29 new W", 0, 0),
-            ("g v1beta1 ws 28 new W, g v1beta1 ws 29 old 34 v1, g v1 ws 30 new W", 8, 2),
-            ("g v1 ws 28 new W, g v1beta1 ws 28 new W, g v1 ws 29 old 34 v1beta1", 8, 3),
-            ("g v1 ws 28 new W, g v1beta1 ws 28 new W, g v1beta1 ws 29 old 34 v1beta1", 8, 3),
-            ("g v1 ws 28 new W, g v1beta1 ws 28 new W, g v1beta1 ws 29 old 32 v2", 8, 3),
-            ("g v1 ws 28 new W, g v1beta1 ws 28 new W, g v1beta1 ws 29 old 33 v1", 9, 3),
-            ("g v1 ws 28 new W, g v1beta1 ws 28 new W, g v1beta1 ws 29 old 34 v1", 0, 0),
+            (
+                "g v1 ws 28 new W, g v1beta1 ws 28 new W, g v1beta1 ws 29 old 31 v1",
+                8,
+                3,
+            ),
+            (
+                "g v1beta1 ws 28 new W, g v1beta1 ws 29 old 34 v1, g v1 ws 29 new W",
+                0,
+                0,
+            ),
+            (
+                "g v1beta1 ws 28 new W, g v1beta1 ws 29 old 34 v1, g v1 ws 30 new W",
+                8,
+                2,
+            ),
+            (
+                "g v1 ws 28 new W, g v1beta1 ws 28 new W, g v1 ws 29 old 34 v1beta1",
+                8,
+                3,
+            ),
+            (
+                "g v1 ws 28 new W, g v1beta1 ws 28 new W, g v1beta1 ws 29 old 34 v1beta1",
+                8,
+                3,
+            ),
+            (
+                "g v1 ws 28 new W, g v1beta1 ws 28 new W, g v1beta1 ws 29 old 32 v2",
+                8,
+                3,
+            ),
+            (
+                "g v1 ws 28 new W, g v1beta1 ws 28 new W, g v1beta1 ws 29 old 33 v1",
+                9,
+                3,
+            ),
+            (
+                "g v1 ws 28 new W, g v1beta1 ws 28 new W, g v1beta1 ws 29 old 34 v1",
+                0,
+                0,
+            ),
             (
                 "g v1 ws 28 new W, g v1beta1 ws 28 new W, g v1beta1 ws 29 old 32 v1, g v1beta1 ws 33 removed",
                 9,
@@ -304,14 +352,16 @@ fn deprecations_and_removals(rt: HostRuntime) -> Result<(), Fail> {
 }
 
 // A version and its successor, and a version before it that goes first.
-const SUCCESSION: &str = "g v1 ws 20 new W, g v1beta1 ws 20 new W, g v1alpha1 ws 20 new W, g v1alpha1 ws 21 old 21 v1beta1, g v1alpha1 ws 21 removed, g v1beta1 ws 22 old 25 v1, g v1beta1 ws 25 removed, g v1beta1 ws 28 forgotten";
+const SUCCESSION: &str =
+    "g v1 ws 20 new W, g v1beta1 ws 20 new W, g v1alpha1 ws 20 new W, g v1alpha1 ws 21 old 21 v1beta1, g v1alpha1 ws 21 removed, g v1beta1 ws 22 old 25 v1, g v1beta1 ws 25 removed, g v1beta1 ws 28 forgotten";
 
 #[test]
 fn forgettings(rt: HostRuntime) -> Result<(), Fail> {
     let alloc = rt.alloc();
     let late = format!(in alloc; "{SUCCESSION}, g v1alpha1 ws 29 forgotten")?;
     let in_time = format!(in alloc; "{SUCCESSION}, g v1alpha1 ws 28 forgotten")?;
-    let one = "g v1 ws 20 new W, g v1beta1 ws 20 new W, g v1beta1 ws 21 old 24 v1, g v1beta1 ws 24 removed";
+    let one =
+        "g v1 ws 20 new W, g v1beta1 ws 20 new W, g v1beta1 ws 21 old 24 v1, g v1beta1 ws 24 removed";
     let after_two = format!(in alloc; "{one}, g v1beta1 ws 26 forgotten")?;
     let after_three = format!(in alloc; "{one}, g v1beta1 ws 27 forgotten")?;
     api_answers(
