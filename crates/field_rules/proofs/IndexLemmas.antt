@@ -12,11 +12,12 @@ use Rattle.lifecycle.specs.declared.entry.ApiEntry.{ApiEntry}
 use Rattle.schemas.specs.ApiRules.{name_of, IsForgetting, IsForgotten}
 use Rattle.field_rules.specs.Keys.{gate_of, resource_of_api, version_of_api, resource_of_field, version_of_spell}
 use Rattle.field_rules.specs.Listing.{lent_in, listed_at, IsListing, HasLent, EachLent}
-use Rattle.field_rules.specs.Pairs.{IntroducesVersionOf, IsPair, IsOfField, IsOfVersion, IsSpelling, SpellsPair}
+use Rattle.schemas.specs.Pairs.{IntroducesVersionOf, IsPair, IsOfField, IsOfVersion, IsSpelling, SpellsPair}
 use Rattle.field_rules.specs.Answers.{IsSpelledIn, PairsWith}
-use Rattle.field_rules.specs.Rules.{Lists}
-use Rattle.field_rules.specs.SpellRules.{FitsType}
-use Rattle.field_rules.proofs.NameLemmas.{parts_same, same_parts}
+use Rattle.schemas.specs.Dated.{Dated}
+use Rattle.schemas.specs.SpellRules.{FitsType}
+use Rattle.basis.proofs.NameLemmas.{same_parts}
+use Rattle.field_rules.proofs.NameLemmas.{parts_same}
 use Rattle.field_rules.proofs.ListingLemmas.{Listed, any_found, all_found}
 
 pub versioned_by : (xs ys : List ApiEntry) (m : Listed ApiEntry) (o : Option (Bor (Vec (Bor ApiEntry)))) (b : Bool) (p q g r : List ℕ) (by : ℕ) → IsListing resource_of_api xs m → xs ≡ ys → lent_in o ≡ listed_at m p q [] → p ≡ g → q ≡ r → (IsTrue b ↔ HasLent (λ x. IsIntroduction x.change × (x.since ≤ by)) o) → IsTrue b ↔ Any (λ x. IntroducesVersionOf g r x × (x.since ≤ by)) ys
@@ -79,7 +80,7 @@ introduced_for xs ys m o b p q t s since listing same is at_g at_v at_r test =
     )) in
     subst (λ (l : List ApiEntry). IsTrue b ↔ Any Q l) same (λ t. both.0 (test.0 t), λ any. test.1 (both.1 any))
 
-pub spelled_throughout : (xs : List ApiEntry) (h : Lists) (m : Listed ApiEntry) (o : Option (Bor (Vec (Bor ApiEntry)))) (b : Bool) (p q : List ℕ) (f : Field) → IsListing resource_of_api xs m → xs ≡ h.apis → lent_in o ≡ listed_at m p q [] → p ≡ f.group → q ≡ f.resource → (IsTrue b ↔ EachLent (IsSpelledIn h f) o) → IsTrue b ↔ All (λ x. IsPair h.apis f x → Any (IsSpelling f (subject x)) h.spells) h.apis
+pub spelled_throughout : (xs : List ApiEntry) (h : Dated) (m : Listed ApiEntry) (o : Option (Bor (Vec (Bor ApiEntry)))) (b : Bool) (p q : List ℕ) (f : Field) → IsListing resource_of_api xs m → xs ≡ h.apis → lent_in o ≡ listed_at m p q [] → p ≡ f.group → q ≡ f.resource → (IsTrue b ↔ EachLent (IsSpelledIn h f) o) → IsTrue b ↔ All (λ x. IsPair h.apis f x → Any (IsSpelling f (subject x)) h.spells) h.apis
 spelled_throughout xs h m o b p q f listing same is at_g at_r test =
     let Q : ApiEntry → Type 0 = λ x. IsPair h.apis f x → Any (IsSpelling f (subject x)) h.spells in
     let both = all_found (IsSpelledIn h f) Q resource_of_api xs m o p q [] listing is (λ (x : ApiEntry). (
@@ -99,7 +100,7 @@ named_same : (x : ApiEntry) (s : Spell) → IsOfVersion (subject x) s → subjec
 named_same x s v = λ i. name_of (v.group i) (v.version i) (v.resource i)
 
 -- a spelling pairs with a field exactly where it spells a pair of it
-pairs_of : (h : Lists) (f : Field) (s : Spell) → IsOfField f s → PairsWith h f s → Any (SpellsPair h.apis f s) h.apis
+pairs_of : (h : Dated) (f : Field) (s : Spell) → IsOfField f s → PairsWith h f s → Any (SpellsPair h.apis f s) h.apis
 pairs_of h f s of_field with = Any-weaker (λ x. IsOfVersion (subject x) s × IsIntroduction x.change × (s.since ≡ max f.since x.since)) (SpellsPair h.apis f s) h.apis (λ x w. record {
   pair = record {
     version = record { of_group = w.0.group ∙ sym of_field.group; of_resource = w.0.resource ∙ sym of_field.resource; introduces = w.1 };
@@ -109,7 +110,7 @@ pairs_of h f s of_field with = Any-weaker (λ x. IsOfVersion (subject x) s × Is
   dated = w.2;
 }) with.introduced
 
-pairs_with : (h : Lists) (f : Field) (s : Spell) → Any (SpellsPair h.apis f s) h.apis → PairsWith h f s
+pairs_with : (h : Dated) (f : Field) (s : Spell) → Any (SpellsPair h.apis f s) h.apis → PairsWith h f s
 pairs_with h f s any =
     let w : SpellsPair h.apis f s any.1 = any.4 in
     record {
@@ -117,7 +118,7 @@ pairs_with h f s any =
       introduced = Any-weaker (SpellsPair h.apis f s) (λ x. IsOfVersion (subject x) s × IsIntroduction x.change × (s.since ≡ max f.since x.since)) h.apis (λ x (k : SpellsPair h.apis f s x). (k.spelling, k.pair.version.introduces, k.dated)) any;
     }
 
-pub paired_with : (xs : List Field) (h : Lists) (m : Listed Field) (o : Option (Bor (Vec (Bor Field)))) (b : Bool) (p q : List ℕ) (s : Spell) → IsListing resource_of_field xs m → xs ≡ h.fields → lent_in o ≡ listed_at m p q [] → p ≡ s.group → q ≡ s.resource → (IsTrue b ↔ HasLent (λ f. (f.id ≡ s.field) × PairsWith h f s) o) → IsTrue b ↔ Any (λ f. IsOfField f s × Any (SpellsPair h.apis f s) h.apis) h.fields
+pub paired_with : (xs : List Field) (h : Dated) (m : Listed Field) (o : Option (Bor (Vec (Bor Field)))) (b : Bool) (p q : List ℕ) (s : Spell) → IsListing resource_of_field xs m → xs ≡ h.fields → lent_in o ≡ listed_at m p q [] → p ≡ s.group → q ≡ s.resource → (IsTrue b ↔ HasLent (λ f. (f.id ≡ s.field) × PairsWith h f s) o) → IsTrue b ↔ Any (λ f. IsOfField f s × Any (SpellsPair h.apis f s) h.apis) h.fields
 paired_with xs h m o b p q s listing same is at_g at_r test =
     let P : Field → Type 0 = λ f. (f.id ≡ s.field) × PairsWith h f s in
     let Q : Field → Type 0 = λ f. IsOfField f s × Any (SpellsPair h.apis f s) h.apis in

@@ -3,5 +3,3 @@ pub mod ListingLemmas
 pub mod IndexLemmas
 pub mod TestLemmas
 pub mod FaultLemmas
-pub mod LawLemmas
-pub mod JoinLemmas

@@ -11,7 +11,7 @@ use Rattle.std.proofs.Math.Nat.{eq-or-lt_of_le}
 use Rattle.std.proofs.lemmas.Option.{slice_get_read, get_or_from_slice_get}
 use Rattle.schemas.proofs.PreviousLemmas.{entry_at}
 use Rattle.std.proofs.lemmas.List.Elements.{All-cons, All-nil}
-use Rattle.field_rules.specs.NameMap.{is_same_name}
+use Rattle.basis.specs.NameMap.{is_same_name}
 use Rattle.field_rules.specs.Listing.{lent, lent_in, listed_at, Name, IsListing, HasLent, EachLent}
 use Rattle.field_rules.proofs.NameLemmas.{parts_same}
 

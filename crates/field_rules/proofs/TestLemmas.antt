@@ -9,12 +9,13 @@ use Rattle.std.proofs.lemmas.Option.{get_or_from_slice_get}
 use Rattle.schemas.proofs.PreviousLemmas.{entry_at}
 use Rattle.fields.specs.declared.field.Field.{Field}
 use Rattle.fields.specs.declared.field.Spell.{Spell}
-use Rattle.field_rules.specs.FieldRules.{is_of_resource, AreOneField}
+use Rattle.schemas.specs.FieldRules.{is_of_resource, AreOneField}
 use Rattle.field_rules.specs.Keys.{resource_of_field, version_of_spell}
 use Rattle.field_rules.specs.Listing.{lent_in, listed_at, IsListing, HasLent, EachLent}
-use Rattle.field_rules.specs.Pairs.{AreOfOneVersion, AreOfOnePair}
-use Rattle.field_rules.specs.Paths.{AreApart}
-use Rattle.field_rules.proofs.NameLemmas.{parts_same, same_parts}
+use Rattle.schemas.specs.Pairs.{AreOfOneVersion, AreOfOnePair}
+use Rattle.fields.specs.Table.{AreApart}
+use Rattle.basis.proofs.NameLemmas.{same_parts}
+use Rattle.field_rules.proofs.NameLemmas.{parts_same}
 use Rattle.field_rules.proofs.ListingLemmas.{Listed, of_name, none_of_all, any_found, all_found}
 use mathlib.Core.Bool.{not}
 

@@ -1,11 +1,12 @@
 -- The fields of an index of entries, as contracts see it.
 use Rattle.field_rules.specs.Keys.{gate_of, resource_of_api, version_of_api, resource_of_field, version_of_spell}
 use Rattle.field_rules.specs.Listing.{IsListing}
-use Rattle.field_rules.specs.Rules.{Lists, lists}
+use Rattle.field_rules.specs.Lists.{lists}
+use Rattle.schemas.specs.Dated.{Dated}
 use Rattle.field_rules.specs.declared.index.Index.TheInside.{Inside}
 
 -- the lists that the index is of
-abbrev pub lists_of : Inside → Lists
+abbrev pub lists_of : Inside → Dated
 lists_of i = lists i.first i.gates.now i.apis.now i.fields.now i.spells.now
 
 -- each listing has its entries

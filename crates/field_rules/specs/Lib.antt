@@ -1,12 +1,5 @@
-pub mod Paths
-pub mod Pairs
-pub mod FieldRules
-pub mod SpellRules
-pub mod Rules
-pub mod NameMap
+pub mod Lists
 pub mod Listing
 pub mod Keys
 pub mod IndexFields
 pub mod Answers
-pub mod Fault
-pub mod Laws

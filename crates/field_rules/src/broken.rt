@@ -1,6 +1,6 @@
 ghost use Rattle.std.specs.Prelude.{◌≡◌, IfOk};
-ghost use Rattle.field_rules.specs.Fault.{FindsFault};
-ghost use Rattle.field_rules.specs.Rules.{lists};
+ghost use Rattle.schemas.specs.Rules.{field_checks, FindsFault};
+ghost use Rattle.field_rules.specs.Lists.{lists};
 
 use crate::index::Index;
 use crate::on_fields::{
@@ -12,16 +12,8 @@ use fields::{Field, Spell};
 use gate_spec::GateEntry;
 use lifecycle::ApiEntry;
 use minor_version::Minor;
-use schemas::Array;
+use schemas::{Array, Broken};
 use std::alloc::Global;
-
-/// A rule that a history breaks, with an entry that breaks it: its array, and its number there, from 1.
-#[derive(Clone, Copy, Debug, PartialEq, Eq)]
-pub struct Broken {
-    pub rule: u8,
-    pub array: Array,
-    pub index: u64,
-}
 
 fn broken_by_field(rule: u8, index: u64) -> Result<Option<Broken>, Memory>
     ensures { result ≡ Ok (Some (record { rule = rule; array = Array.Field; index = index })) }
@@ -54,7 +46,7 @@ pub fn first_broken(
     fields: &[Field],
     spells: &[Spell],
 ) -> Result<Option<Broken>, Memory>
-    ensures { IfOk result (FindsFault (lists first gates.now apis.now fields.now spells.now)) }
+    ensures { IfOk result (FindsFault (lists first gates.now apis.now fields.now spells.now) field_checks) }
 {
     let Ok(index) = Index::new(alloc, first, gates, apis, fields, spells) else {
         return Err(Memory);

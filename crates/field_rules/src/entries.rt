@@ -3,12 +3,11 @@ ghost use Rattle.std.specs.Prelude.{◌↔◌, ◌≤◌, ◌≡◌, IsTrue, max
 ghost use Rattle.lifecycle.specs.Entry.{IsIntroduction};
 ghost use Rattle.schemas.specs.ApiRules.{IsForgetting};
 ghost use Rattle.field_rules.specs.Listing.{lent_in, HasLent, EachLent};
-ghost use Rattle.field_rules.specs.Paths.{AreApart};
-ghost use Rattle.field_rules.specs.SpellRules.{FitsType};
+ghost use Rattle.fields.specs.Table.{AreApart};
+ghost use Rattle.schemas.specs.SpellRules.{FitsType};
 
-use crate::paths::are_apart;
 use crate::types::fits_type;
-use fields::{Field, Spell};
+use fields::{Field, Spell, are_apart};
 use gate_spec::GateEntry;
 use lifecycle::{ApiChange, ApiEntry};
 use minor_version::{Minor, Text};

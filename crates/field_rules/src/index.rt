@@ -2,11 +2,12 @@
 ghost use Rattle.std.specs.Prelude.{◌≡◌, ◌≤◌, ◌↔◌, IsTrue, IfOk, All, Any, max};
 ghost use Rattle.lifecycle.specs.Entry.{subject, IsIntroduction};
 ghost use Rattle.schemas.specs.ApiRules.{name_of, IsForgotten};
+ghost use Rattle.schemas.specs.Rules.{first_of};
 ghost use Rattle.field_rules.specs.Answers.{IsSpelledIn, PairsWith};
 ghost use Rattle.field_rules.specs.Listing.{HasLent, EachLent};
-ghost use Rattle.field_rules.specs.Pairs.{IntroducesVersionOf, IsPair, IsOfField, IsOfVersion, IsSpelling, IsPaired};
-ghost use Rattle.field_rules.specs.Rules.{lists};
-ghost use Rattle.field_rules.specs.SpellRules.{FitsType};
+ghost use Rattle.schemas.specs.Pairs.{IntroducesVersionOf, IsPair, IsOfField, IsOfVersion, IsSpelling, IsPaired};
+ghost use Rattle.field_rules.specs.Lists.{lists};
+ghost use Rattle.schemas.specs.SpellRules.{FitsType};
 
 use crate::entries::{
     are_introduced_since, fits_fields, has_forgetting_by, has_gate_by, has_introduction_by,
@@ -38,9 +39,9 @@ pub struct Index<'a> {
 }
 
 impl<'a> Model for Index<'a> {
-    ghost use Rattle.field_rules.specs.Rules.{Lists};
+    ghost use Rattle.schemas.specs.Dated.{Dated};
 
-    ghost Value = { Lists };
+    ghost Value = { Dated };
 
     ghost use Rattle.field_rules.specs.IndexFields.{lists_of, IsIndex};
 
@@ -92,7 +93,7 @@ impl<'a> Index<'a> {
 
     /// The history's first release.
     pub fn first(&self) -> Minor
-        ensures { result ≡ self.now.first }
+        ensures { result ≡ first_of self.now }
     {
         self.first
     }

@@ -5,7 +5,6 @@ mod broken;
 mod entries;
 mod index;
 mod keys;
-mod laws;
 mod listing;
 mod on_fields;
 mod on_spellings;
@@ -14,8 +13,4 @@ mod paths;
 mod tests;
 mod types;
 
-pub use broken::{Broken, first_broken};
-pub use laws::{
-    decodable_version_is_spelled, lawful_is_unbroken, live_version_stays_decodable,
-    pairs_have_one_spelling, paths_are_apart,
-};
+pub use broken::first_broken;

@@ -1,6 +1,6 @@
 //! Entries listed by names of three parts, so that those of one name are found without a pass over all.
 ghost use Rattle.std.specs.Prelude.{◌≡◌, ◌++◌, ℕ, List, [], ◌∷◌, OnOk, cond};
-ghost use Rattle.field_rules.specs.NameMap.{is_same_name};
+ghost use Rattle.basis.specs.NameMap.{is_same_name};
 ghost use Rattle.field_rules.specs.Listing.{lent_in, listed_at};
 
 use basis::Memory;

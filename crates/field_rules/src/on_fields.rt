@@ -2,7 +2,8 @@
 ghost use Rattle.std.specs.Prelude.{◌≡◌, ◌↔◌, ◌<◌, List, [], IsTrue, IfOk, All, length, filter};
 ghost use Rattle.fields.specs.declared.field.Field.{Field as TheField};
 ghost use Rattle.schemas.specs.Places.{FindsFirst};
-ghost use Rattle.field_rules.specs.FieldRules.{is_of_resource, AreOneField, begins_at, BelongsToResource, IsRequiredFairly, HasKnownGate, IsSpelledThroughout};
+ghost use Rattle.schemas.specs.Rules.{first_of};
+ghost use Rattle.schemas.specs.FieldRules.{is_of_resource, AreOneField, begins_at, BelongsToResource, IsRequiredFairly, HasKnownGate, IsSpelledThroughout};
 ghost use Rattle.field_rules.specs.Keys.{resource_of_field};
 ghost use Rattle.field_rules.specs.Listing.{IsListing};
 
@@ -42,7 +43,7 @@ fn is_of_few<'a>(earlier: &Listing<'a, Field>, field: &'a Field) -> bool
 }
 
 fn belongs<'a>(index: &Index<'a>, earlier: &Listing<'a, Field>, field: &'a Field) -> bool
-    ensures { (fields : List TheField) → IsListing resource_of_field fields earlier.now → IsTrue result ↔ BelongsToResource index.now.first index.now.apis fields field.now }
+    ensures { (fields : List TheField) → IsListing resource_of_field fields earlier.now → IsTrue result ↔ BelongsToResource (first_of index.now) index.now.apis fields field.now }
 {
     is_once(earlier, field)
         && is_of_few(earlier, field)
@@ -55,7 +56,7 @@ pub fn first_misplaced<'a>(
     index: &Index<'a>,
     fields: &'a [Field],
 ) -> Result<Option<u64>, Memory>
-    ensures { IfOk result (FindsFirst (BelongsToResource index.now.first index.now.apis) fields.now) }
+    ensures { IfOk result (FindsFirst (BelongsToResource (first_of index.now) index.now.apis) fields.now) }
 {
     let mut earlier: Listing<'a, Field> = BTreeMap::new(alloc);
     for (i, field) in fields.iter().enumerate() {
@@ -93,7 +94,7 @@ pub fn first_unfairly_required<'a>(index: &Index<'a>, fields: &'a [Field]) -> Op
 }
 
 fn has_known_gate<'a>(index: &Index<'a>, field: &'a Field) -> bool
-    ensures { IsTrue result ↔ HasKnownGate index.now.first index.now.gates [] field.now }
+    ensures { IsTrue result ↔ HasKnownGate (first_of index.now) index.now.gates [] field.now }
 {
     match &field.gate {
         Some(gate) => index.is_gate_known(gate, begin(index.first(), field)),
@@ -103,7 +104,7 @@ fn has_known_gate<'a>(index: &Index<'a>, field: &'a Field) -> bool
 
 /// The first field whose gate isn't known when it begins (HR13).
 pub fn first_with_unknown_gate<'a>(index: &Index<'a>, fields: &'a [Field]) -> Option<u64>
-    ensures { FindsFirst (HasKnownGate index.now.first index.now.gates) fields.now result }
+    ensures { FindsFirst (HasKnownGate (first_of index.now) index.now.gates) fields.now result }
 {
     for (i, field) in fields.iter().enumerate() {
         if !has_known_gate(index, field) {

@@ -4,9 +4,9 @@ ghost use Rattle.fields.specs.declared.field.Spell.{Spell as TheSpell};
 ghost use Rattle.schemas.specs.Places.{FindsFirst};
 ghost use Rattle.field_rules.specs.Keys.{version_of_spell};
 ghost use Rattle.field_rules.specs.Listing.{IsListing};
-ghost use Rattle.field_rules.specs.Pairs.{AreOfOneVersion, AreOfOnePair};
-ghost use Rattle.field_rules.specs.Paths.{AreApart};
-ghost use Rattle.field_rules.specs.SpellRules.{SpellsPairOnce, HasOwnPath, FitsField};
+ghost use Rattle.schemas.specs.Pairs.{AreOfOneVersion, AreOfOnePair};
+ghost use Rattle.fields.specs.Table.{AreApart};
+ghost use Rattle.schemas.specs.SpellRules.{SpellsPairOnce, HasOwnPath, FitsField};
 
 use crate::entries::{has_spelling, is_apart_from};
 use crate::index::Index;

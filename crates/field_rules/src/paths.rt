@@ -1,24 +1,11 @@
-//! Tests of paths.
-ghost use Rattle.std.specs.Prelude.{◌↔◌, IsTrue};
-ghost use Rattle.field_rules.specs.Paths.{IsPrefix, AreApart, IsFreeSegment, BeginsFree};
+//! Tests of where paths begin.
+ghost use Rattle.std.specs.Prelude.{◌↔◌, IsTrue, IfSome, slice_get};
+ghost use Rattle.fields.specs.Table.{IsFree};
 
 use minor_version::Text;
 
-fn is_prefix(outer: &[Text], path: &[Text]) -> bool
-    ensures { IsTrue result ↔ IsPrefix outer.now path.now }
-{
-    path.starts_with(outer)
-}
-
-/// Whether neither path equals the other or is a prefix of it, by segments.
-pub fn are_apart(p: &[Text], q: &[Text]) -> bool
-    ensures { IsTrue result ↔ AreApart p.now q.now }
-{
-    !is_prefix(p, q) && !is_prefix(q, p)
-}
-
-fn is_free_segment(segment: &Text) -> bool
-    ensures { IsTrue result ↔ IsFreeSegment segment.now }
+fn is_free(segment: &Text) -> bool
+    ensures { IsTrue result ↔ IsFree segment.now }
 {
     let segment = segment.as_str();
     segment != "apiVersion" && segment != "kind" && segment != "metadata"
@@ -26,10 +13,10 @@ fn is_free_segment(segment: &Text) -> bool
 
 /// Whether the path doesn't begin at a member that each object has.
 pub fn begins_free(path: &[Text]) -> bool
-    ensures { IsTrue result ↔ BeginsFree path.now }
+    ensures { IsTrue result ↔ IfSome (slice_get path.now 0) IsFree }
 {
     match path.first() {
-        Some(segment) => is_free_segment(segment),
+        Some(segment) => is_free(segment),
         None => true,
     }
 }

@@ -5,7 +5,6 @@ ghost use Rattle.lifecycle.specs.Stability.{rank_of};
 ghost use Rattle.lifecycle.specs.declared.entry.ApiEntry.{ApiEntry as TheEntry};
 ghost use Rattle.schemas.specs.Places.{FindsFirst};
 ghost use Rattle.schemas.specs.ApiRules.{previous_of_version, notice_of, HasLawfulName, IsNext, StandsInOrder, NamesItsKind, IsFairBetween, IsFairDeprecation, IsFairChange, DeprecatesFairly, IsPlanned, IsKept, KeepsPlan, IsLateAfter, IsForgottenLate, ForgetsLate};
-ghost use Rattle.schemas.specs.Rules.{IsApiBy};
 ghost use Rattle.history_rules.specs.Previous.{AreLinked};
 ghost use Rattle.history_rules.specs.KindsFields.{AreKindsOf};
 
@@ -18,18 +17,6 @@ use std::alloc::Global;
 
 /// For how many releases a removed version is still read.
 const READABLE_RELEASES: u16 = 3;
-
-/// The first entry dated after the last release (HR2).
-pub fn first_late_api(last: Minor, entries: &[ApiEntry]) -> Option<u64>
-    ensures { FindsFirst (IsApiBy last) entries.now result }
-{
-    for (i, entry) in entries.iter().enumerate() {
-        if entry.since > last {
-            return Some(i as u64 + 1);
-        }
-    }
-    None
-}
 
 fn is_next(previous: Option<&ApiEntry>, entry: &ApiEntry) -> bool
     ensures { IsTrue result ↔ IsNext (option_copied previous.entry) entry.now.since entry.now.change }

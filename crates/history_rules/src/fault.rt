@@ -1,5 +1,3 @@
-ghost use Rattle.std.specs.Prelude.{◌≡◌};
-
 use schemas::Array;
 use std::error::Error;
 use std::fmt;
@@ -26,10 +24,3 @@ impl fmt::Display for CheckFault {
 }
 
 impl Error for CheckFault {}
-
-/// The fault of an entry that breaks the rule.
-pub fn broken(rule: u8, array: Array, index: u64) -> CheckFault
-    ensures { result ≡ CheckFault.Broken rule array index }
-{
-    CheckFault::Broken { rule, array, index }
-}

@@ -3,26 +3,12 @@ ghost use Rattle.std.specs.Prelude.{◌↔◌, IsTrue, length};
 ghost use Rattle.std.specs.Option.{option_copied};
 ghost use Rattle.schemas.specs.Places.{FindsFirst};
 ghost use Rattle.schemas.specs.GateRules.{previous_of_gate, IsGone, IsFitSpec, IsRipe, RisesFrom, RisesInGate, FitsStage, FollowsLockedSpec};
-ghost use Rattle.schemas.specs.Rules.{IsGateBy};
 ghost use Rattle.history_rules.specs.Previous.{AreLinked};
 
 use gate_spec::{GateChange, GateEntry, Stage};
-use minor_version::Minor;
 
 /// For how many releases a locked gate stays.
 const NOTICE: u16 = 3;
-
-/// The first entry dated after the last release (HR2).
-pub fn first_late_gate(last: Minor, entries: &[GateEntry]) -> Option<u64>
-    ensures { FindsFirst (IsGateBy last) entries.now result }
-{
-    for (i, entry) in entries.iter().enumerate() {
-        if entry.since > last {
-            return Some(i as u64 + 1);
-        }
-    }
-    None
-}
 
 fn is_gone(change: &GateChange) -> bool
     ensures { IsTrue result ↔ IsGone change.now }

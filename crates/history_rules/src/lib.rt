@@ -9,6 +9,7 @@ mod fault;
 mod followers;
 mod gate_rules;
 mod kinds;
+mod late;
 mod previous;
 #[cfg(test)]
 mod tests;

@@ -60,7 +60,7 @@ known_decided name e x =
 pub removed_decided : (xs : List ApiEntry) (name : GroupVersionResource) (e : ℕ) → IsRemoved xs name e ⊎ ¬ IsRemoved xs name e
 removed_decided xs name e = any_decided (λ x. IsKnownOf name e x × IsRemoval x.change) (λ x. both (known_decided name e x) (removal_decided x.change)) xs
 
-introduction_decided : (change : ApiChange) → IsIntroduction change ⊎ ¬ IsIntroduction change
+pub introduction_decided : (change : ApiChange) → IsIntroduction change ⊎ ¬ IsIntroduction change
 introduction_decided (Introduced kind singular namespaced enabled) = inl tt
 introduction_decided (Deprecated removal replacement) = inr (λ h. h)
 introduction_decided Removed = inr (λ h. h)

@@ -20,7 +20,11 @@ use Rattle.schemas.specs.Shapes.{IsShapedApi, IsShapedChange}
 use Rattle.schemas.specs.Places.{Each, Breaks}
 use Rattle.schemas.specs.GateRules.{IsGone, IsLockedSpec, IsFitSpec, IsRipe, RisesInGate, FitsStage, FollowsLockedSpec}
 use Rattle.schemas.specs.ApiRules.{IsDeprecation, IsNext, AgreeInKind, DifferInKind, KeepKindsApart, HasLawfulName, NamesItsKind, notice_of, IsFairBetween, IsFairDeprecation, IsFairChange, IsPlanned, IsKept, KeepsPlan, IsInFavourOf, IsLateAfter, AreForgottenFirst, IsForgottenLate, ForgetsLate, DeprecatesFairly, StandsInOrder, name_of, IsForgotten}
-use Rattle.schemas.specs.Rules.{IsGateBy, IsApiBy, IsAccepted, IsUnbroken, checks, last_of}
+use Rattle.schemas.specs.FieldRules.{BelongsToResource, IsRequiredFairly, HasKnownGate, IsSpelledThroughout}
+use Rattle.schemas.specs.SpellRules.{SpellsPairOnce, HasOwnPath, FitsType, FitsField}
+use Rattle.schemas.specs.Pairs.{IsOfField}
+use Rattle.schemas.specs.Rules.{IsGateBy, IsApiBy, IsFieldBy, IsSpellBy, IsAccepted, IsUnbroken, checks, first_of, last_of}
+use Rattle.schemas.proofs.FieldStabilityLemmas.{belongs_stable, always_stable, gate_stable, spelled_stable, paired_stable, path_stable, fit_stable}
 use Rattle.schemas.proofs.PlaceLemmas.{unbroken}
 use Rattle.schemas.proofs.DecisionLemmas.{IsStable, stable_decided, stable_both, stable_not, stable_to, stable_all, stable_holds, stable_fails, stable_less, stable_at_most, stable_same, stable_bytes, stable_bool, introduced_decided, removed_decided, forgotten_decided}
 
@@ -173,46 +177,28 @@ shaped_at (y ∷ ys) shaped zero x stands = subst IsShapedApi (let e : Some y �
 shaped_at (y ∷ ys) shaped (suc i) x stands = shaped_at ys shaped.1 i x stands
 
 pub accepted_unbroken : (h : Dated) → IsAccepted h → IsUnbroken h checks
-accepted_unbroken h a = (
-  (λ n top. top.1 a.releases),
-  (
-    unbroken _ h.gates a.gates_by_last,
-    (
-      unbroken _ h.apis a.apis_by_last,
-      (
-        unbroken _ h.gates a.gates_rise,
-        (
-          unbroken _ h.gates a.gates_fit_stages,
-          (
-            unbroken _ h.gates a.gates_end_locked,
-            (
-              unbroken _ h.apis a.versions_in_order,
-              (
-                unbroken _ h.apis a.kinds_apart,
-                (
-                  unbroken _ h.apis a.deprecations_fair,
-                  (unbroken _ h.apis a.removals_planned, (unbroken _ h.apis a.forgettings_late, tt)),
-                ),
-              ),
-            ),
-          ),
-        ),
-      ),
-    ),
-  ),
-)
+accepted_unbroken h a = ((λ n top. top.1 a.releases), (unbroken _ h.gates a.gates_by_last, (unbroken _ h.apis a.apis_by_last, (unbroken _ h.fields a.fields_by_last, (unbroken _ h.spells a.spells_by_last, (unbroken _ h.gates a.gates_rise, (unbroken _ h.gates a.gates_fit_stages, (unbroken _ h.gates a.gates_end_locked, (unbroken _ h.apis a.versions_in_order, (unbroken _ h.apis a.kinds_apart, (unbroken _ h.apis a.deprecations_fair, (unbroken _ h.apis a.removals_planned, (unbroken _ h.apis a.forgettings_late, (unbroken _ h.fields a.fields_belong, (unbroken _ h.fields a.required_fairly, (unbroken _ h.fields a.guards_known, (unbroken _ h.fields a.spelled_throughout, (unbroken _ h.spells a.spelled_once, (unbroken _ h.spells a.paths_apart, (unbroken _ h.spells a.types_fit, tt))))))))))))))))))))
 
 pub unbroken_accepted : (h : Dated) → IsShaped h → IsUnbroken h checks → IsAccepted h
 unbroken_accepted h shaped u = record {
   releases = releases_stable h.first h.last (λ no. u.0 0 (refl, no));
   gates_by_last = each_keeps (IsGateBy (last_of h)) h.gates (λ i x s. stable_at_most x.since (last_of h)) u.1.0;
   apis_by_last = each_keeps (IsApiBy (last_of h)) h.apis (λ i x s. stable_at_most x.since (last_of h)) u.1.1.0;
-  gates_rise = each_keeps RisesInGate h.gates (λ i x s. rises_stable _ x.since) u.1.1.1.0;
-  gates_fit_stages = each_keeps FitsStage h.gates (λ i x s. fits_stable x.change) u.1.1.1.1.0;
-  gates_end_locked = each_keeps FollowsLockedSpec h.gates (λ i x s. ripe_stable _ x.since x.change) u.1.1.1.1.1.0;
-  versions_in_order = each_keeps StandsInOrder h.apis (λ i x s. next_stable _ x.since x.change) u.1.1.1.1.1.1.0;
-  kinds_apart = each_keeps NamesItsKind h.apis (λ i x s. stable_both (name_stable x) (stable_all (KeepKindsApart x) (take i h.apis) (λ y. apart_stable x y))) u.1.1.1.1.1.1.1.0;
-  deprecations_fair = each_keeps (DeprecatesFairly h.apis) h.apis (λ i x s. let shape = shaped_at h.apis shaped.apis i x s in fair_stable h.apis x x.change shape.version shape.change) u.1.1.1.1.1.1.1.1.0;
-  removals_planned = each_keeps (KeepsPlan h.apis (last_of h)) h.apis (λ i x s. kept_stable h.apis (last_of h) _ x x.change) u.1.1.1.1.1.1.1.1.1.0;
-  forgettings_late = each_keeps (ForgetsLate h.apis) h.apis (λ i x s. forgotten_stable h.apis _ x x.change) u.1.1.1.1.1.1.1.1.1.1.0;
+  fields_by_last = each_keeps (IsFieldBy (last_of h)) h.fields (λ i x s. stable_at_most x.since (last_of h)) u.1.1.1.0;
+  spells_by_last = each_keeps (IsSpellBy (last_of h)) h.spells (λ i x s. stable_at_most x.since (last_of h)) u.1.1.1.1.0;
+  gates_rise = each_keeps RisesInGate h.gates (λ i x s. rises_stable _ x.since) u.1.1.1.1.1.0;
+  gates_fit_stages = each_keeps FitsStage h.gates (λ i x s. fits_stable x.change) u.1.1.1.1.1.1.0;
+  gates_end_locked = each_keeps FollowsLockedSpec h.gates (λ i x s. ripe_stable _ x.since x.change) u.1.1.1.1.1.1.1.0;
+  versions_in_order = each_keeps StandsInOrder h.apis (λ i x s. next_stable _ x.since x.change) u.1.1.1.1.1.1.1.1.0;
+  kinds_apart = each_keeps NamesItsKind h.apis (λ i x s. stable_both (name_stable x) (stable_all (KeepKindsApart x) (take i h.apis) (λ y. apart_stable x y))) u.1.1.1.1.1.1.1.1.1.0;
+  deprecations_fair = each_keeps (DeprecatesFairly h.apis) h.apis (λ i x s. let shape = shaped_at h.apis shaped.apis i x s in fair_stable h.apis x x.change shape.version shape.change) u.1.1.1.1.1.1.1.1.1.1.0;
+  removals_planned = each_keeps (KeepsPlan h.apis (last_of h)) h.apis (λ i x s. kept_stable h.apis (last_of h) _ x x.change) u.1.1.1.1.1.1.1.1.1.1.1.0;
+  forgettings_late = each_keeps (ForgetsLate h.apis) h.apis (λ i x s. forgotten_stable h.apis _ x x.change) u.1.1.1.1.1.1.1.1.1.1.1.1.0;
+  fields_belong = each_keeps (BelongsToResource (first_of h) h.apis) h.fields (λ i x s. belongs_stable (first_of h) h.apis (take i h.fields) x) u.1.1.1.1.1.1.1.1.1.1.1.1.1.0;
+  required_fairly = each_keeps (IsRequiredFairly h.apis) h.fields (λ i x s. stable_to (always_stable h.apis x)) u.1.1.1.1.1.1.1.1.1.1.1.1.1.1.0;
+  guards_known = each_keeps (HasKnownGate (first_of h) h.gates) h.fields (λ i x s. gate_stable (first_of h) h.gates x x.gate) u.1.1.1.1.1.1.1.1.1.1.1.1.1.1.1.0;
+  spelled_throughout = each_keeps (IsSpelledThroughout h.apis h.spells) h.fields (λ i x s. spelled_stable h.apis h.spells x) u.1.1.1.1.1.1.1.1.1.1.1.1.1.1.1.1.0;
+  spelled_once = each_keeps (SpellsPairOnce h.apis h.fields) h.spells (λ i x s. paired_stable h.apis h.fields (take i h.spells) x) u.1.1.1.1.1.1.1.1.1.1.1.1.1.1.1.1.1.0;
+  paths_apart = each_keeps HasOwnPath h.spells (λ i x s. path_stable (take i h.spells) x) u.1.1.1.1.1.1.1.1.1.1.1.1.1.1.1.1.1.1.0;
+  types_fit = each_keeps (FitsField h.fields) h.spells (λ i x s. stable_all (λ f. IsOfField f x → FitsType f.ty x.form x.default) h.fields (λ f. stable_to (fit_stable f.ty x.form x.default))) u.1.1.1.1.1.1.1.1.1.1.1.1.1.1.1.1.1.1.1.0;
 }

@@ -5,6 +5,7 @@ use Rattle.std.specs.Str.{bytes_eq}
 use Rattle.std.proofs.lemmas.Bool.{false≢true, cases_order}
 use Rattle.std.proofs.lemmas.Slice.Eq.{bytes_eq-Decides}
 use Rattle.std.proofs.lemmas.Option.{slice_get_within, slice_get_read, slice_get-get_or}
+use Rattle.basis.proofs.ElementLemmas.{Any-weaker}
 use Rattle.gate_spec.specs.declared.entry.GateEntry.{GateEntry}
 use Rattle.lifecycle.specs.Entry.{IsIntroduction, IsRemoval, IsKnownOf, IsIntroduced, IsLive, GroupVersionResource}
 use Rattle.lifecycle.specs.declared.entry.ApiChange.{ApiChange}
@@ -82,15 +83,12 @@ introduced_once h a = λ (i j : ℕ) (x y : ApiEntry) (less : i < j) (sx : slice
     (none_before (previous_of_version (take j h.apis) y) y.since y.change second (a.versions_in_order j y sy))
 
 -- some entry of a list, by its place
-any_stands : {E : Type 0} (P : E → Type 0) (xs : List E) → (any : Any P xs) → slice_get xs any.0 ≡ Some any.1
+pub any_stands : {E : Type 0} (P : E → Type 0) (xs : List E) → (any : Any P xs) → slice_get xs any.0 ≡ Some any.1
 any_stands P xs any = slice_get_read xs (length xs) any.0 any.1 refl any.2 (sym any.3)
 
-any_like : {E : Type 0} (P Q : E → Type 0) (xs : List E) → ((x : E) → P x → Q x) → Any P xs → Any Q xs
-any_like P Q xs map any = (any.0, any.1, any.2, any.3, map any.1 any.4)
-
-introduced_later : (xs : List ApiEntry) (name : GroupVersionResource) (e : ℕ) → IsIntroduced xs name e → IsIntroduced xs name (e + 1)
-introduced_later xs name e any = any_like (λ x. IsKnownOf name e x × IsIntroduction x.change) (λ x. IsKnownOf name (e + 1) x × IsIntroduction x.change) xs
-    (λ (x : ApiEntry) (known : IsKnownOf name e x × IsIntroduction x.change). let k : IsKnownOf name e x = known.0 in (record { group = k.group; version = k.version; resource = k.resource; dated = (let d : x.since ≤ e = k.dated in omega arith) }, known.1)) any
+pub introduced_later : (xs : List ApiEntry) (name : GroupVersionResource) (m e : ℕ) → m ≤ e → IsIntroduced xs name m → IsIntroduced xs name e
+introduced_later xs name m e later = Any-weaker (λ x. IsKnownOf name m x × IsIntroduction x.change) (λ x. IsKnownOf name e x × IsIntroduction x.change) xs
+    (λ x (w : IsKnownOf name m x × IsIntroduction x.change). (record { group = w.0.group; version = w.0.version; resource = w.0.resource; dated = (let d : x.since ≤ m = w.0.dated in omega arith) }, w.1))
 
 -- HR9: at its removal a version's replacement is live
 replaced : (all : List ApiEntry) (x : ApiEntry) (change : ApiChange) → IsPlanned all x change → (version : List ℕ) × IsLive all (name_of x.group version x.resource) x.since
@@ -110,7 +108,7 @@ stays_live_once : (h : Dated) → IsAccepted h → (group resource : List ℕ) (
 stays_live_once h a group resource e live =
     let name : GroupVersionResource = name_of group live.0 resource in
     elim (removed_decided h.apis name (e + 1)) [
-      | inr not ↦ (live.0, (introduced_later h.apis name e live.1.0, not))
+      | inr not ↦ (live.0, (introduced_later h.apis name e (e + 1) (omega arith) live.1.0, not))
       | inl any ↦
           let x : ApiEntry = any.1 in
           let known : IsKnownOf name (e + 1) x = any.4.0 in

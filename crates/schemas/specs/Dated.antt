@@ -2,9 +2,11 @@
 use Rattle.std.specs.Prelude.{ℕ, List}
 use Rattle.std.specs.declared.option.Option.{Option}
 use Rattle.std.specs.List.{AllByRecursion}
+use Rattle.fields.specs.declared.field.Field.{Field}
+use Rattle.fields.specs.declared.field.Spell.{Spell}
 use Rattle.gate_spec.specs.declared.entry.GateEntry.{GateEntry}
 use Rattle.lifecycle.specs.declared.entry.ApiEntry.{ApiEntry}
-use Rattle.schemas.specs.Shapes.{IsShapedGate, IsShapedApi}
+use Rattle.schemas.specs.Shapes.{IsShapedGate, IsShapedApi, IsShapedField, IsShapedSpell}
 
 -- dated entries, each list in document order, and the first and the last release of which they speak
 pub record Dated : Type 0 where
@@ -12,8 +14,12 @@ pub record Dated : Type 0 where
   pub last : Option ℕ
   pub gates : List GateEntry
   pub apis : List ApiEntry
+  pub fields : List Field
+  pub spells : List Spell
 
 -- each text of each entry has the shape of its member
 pub record IsShaped (h : Dated) : Type 0 where
   pub gates : AllByRecursion IsShapedGate h.gates
   pub apis : AllByRecursion IsShapedApi h.apis
+  pub fields : AllByRecursion IsShapedField h.fields
+  pub spells : AllByRecursion IsShapedSpell h.spells

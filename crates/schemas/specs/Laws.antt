@@ -1,11 +1,18 @@
 -- What follows from the rules, for those who build on accepted histories.
-use Rattle.std.specs.Prelude.{ℕ, ◌≡◌, ◌↔◌, ◌<◌, ◌≤◌, List, Some, slice_get}
+use Rattle.std.specs.Prelude.{ℕ, ◌≡◌, ◌↔◌, ◌+◌, ◌<◌, ◌≤◌, List, Some, Any, slice_get}
+use Rattle.fields.specs.Table.{AreApart}
+use Rattle.fields.specs.declared.field.Field.{Field}
+use Rattle.fields.specs.declared.field.Spell.{Spell}
 use Rattle.gate_spec.specs.Gates.{RisesInDate}
-use Rattle.lifecycle.specs.Entry.{IsIntroduction, IsLive}
+use Rattle.lifecycle.specs.Entry.{GroupVersionResource, IsIntroduction, IsIntroduced, IsLive}
 use Rattle.lifecycle.specs.declared.entry.ApiEntry.{ApiEntry}
 use Rattle.schemas.specs.declared.array.Array.{Array}
 use Rattle.schemas.specs.Dated.{Dated}
-use Rattle.schemas.specs.ApiRules.{name_of}
+use Rattle.schemas.specs.ApiRules.{name_of, IsForgotten}
+use Rattle.schemas.specs.FieldRules.{IsSpelledThroughout}
+use Rattle.schemas.specs.Pairs.{IsSpelling, AreOfOneVersion as AreSpellingsOfOneVersion}
+use Rattle.schemas.specs.Places.{Each}
+use Rattle.schemas.specs.SpellRules.{SpellsPairOnce}
 use Rattle.schemas.specs.Rules.{IsAccepted, IsUnbroken, checks, IsFirstFault}
 
 -- entries of one gate rise in date
@@ -43,3 +50,29 @@ HasOneFirstFault h = (r r' : ℕ) (a a' : Array) (n n' : ℕ) → IsFirstFault h
 pub record IsJoined (h : Dated) : Type 0 where
   pub whole : IsAccepted h ↔ IsUnbroken h checks
   pub excluded : (r : ℕ) (a : Array) (n : ℕ) → IsAccepted h → ¬ IsFirstFault h checks r a n
+
+-- HR14 is kept, of fields and of spellings
+pub record ArePairsKept (h : Dated) : Type 0 where
+  pub of_fields : Each (IsSpelledThroughout h.apis h.spells) h.fields
+  pub of_spellings : Each (SpellsPairOnce h.apis h.fields) h.spells
+
+-- objects in the version are read at the release: it is introduced and not forgotten
+abbrev pub IsDecodable : List ApiEntry → GroupVersionResource → ℕ → Type 0
+IsDecodable apis name e = IsIntroduced apis name e × ¬ IsForgotten apis name e
+
+-- a version that is live at a release is decodable from it up to three releases later
+abbrev pub LiveStaysDecodable : List ApiEntry → Type 0
+LiveStaysDecodable apis = (name : GroupVersionResource) (m e : ℕ) → m ≤ e → e ≤ m + 3 → IsLive apis name m → IsDecodable apis name e
+
+-- of the spellings dated by the release, exactly one spells the field in the version
+pub record IsSpelledOnceBy (e : ℕ) (spells : List Spell) (f : Field) (name : GroupVersionResource) : Type 0 where
+  pub some : Any (λ s. IsSpelling f name s × (s.since ≤ e)) spells
+  pub one : (i j : ℕ) (s t : Spell) → slice_get spells i ≡ Some s → slice_get spells j ≡ Some t → IsSpelling f name s → IsSpelling f name t → i ≡ j
+
+-- in a version that is decodable at a release, each field of its resource that is there by then is spelled once
+abbrev pub DecodableIsSpelled : Dated → Type 0
+DecodableIsSpelled h = (name : GroupVersionResource) (e i : ℕ) (f : Field) → IsDecodable h.apis name e → slice_get h.fields i ≡ Some f → f.group ≡ name.group → f.resource ≡ name.resource → f.since ≤ e → IsSpelledOnceBy e h.spells f name
+
+-- two spellings of one version have paths apart
+abbrev pub PathsAreApart : List Spell → Type 0
+PathsAreApart spells = (i j : ℕ) (s t : Spell) → i < j → slice_get spells i ≡ Some s → slice_get spells j ≡ Some t → AreSpellingsOfOneVersion s t → AreApart s.path t.path

@@ -5,6 +5,9 @@ pub mod Fields
 pub mod Places
 pub mod GateRules
 pub mod ApiRules
+pub mod Pairs
+pub mod FieldRules
+pub mod SpellRules
 pub mod Rules
 pub mod Laws
 pub mod AcceptedFields

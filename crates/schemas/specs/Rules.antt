@@ -1,13 +1,19 @@
 -- What makes a release history accepted, and which rule a history breaks first.
-use Rattle.std.specs.Prelude.{ℕ, ◌≡◌, ◌≤◌, ◌⊎◌, List, [], ◌∷◌, IsSomeAnd, unwrap_or}
+use Rattle.std.specs.Prelude.{ℕ, ◌≡◌, ◌≤◌, ◌⊎◌, List, [], ◌∷◌, ◌++◌, IsSomeAnd, unwrap_or, MatchOption}
+use Rattle.std.specs.declared.option.Option.{Option}
+use Rattle.fields.specs.declared.field.Field.{Field}
+use Rattle.fields.specs.declared.field.Spell.{Spell}
 use Rattle.gate_spec.specs.declared.entry.GateEntry.{GateEntry}
 use Rattle.lifecycle.specs.declared.entry.ApiEntry.{ApiEntry}
 use Rattle.schemas.specs.declared.array.Array.{Array}
-use Rattle.schemas.specs.declared.array.Array.TheVariants.{Top, Gate, Api}
+use Rattle.schemas.specs.declared.array.Array.TheVariants.{Top, Gate, Api, Field as FieldArray, Spell as SpellArray}
+use Rattle.schemas.specs.declared.broken.Broken.{Broken}
 use Rattle.schemas.specs.Dated.{Dated}
 use Rattle.schemas.specs.Places.{Each, Breaks, IsFirst}
 use Rattle.schemas.specs.GateRules.{RisesInGate, FitsStage, FollowsLockedSpec}
 use Rattle.schemas.specs.ApiRules.{StandsInOrder, NamesItsKind, DeprecatesFairly, KeepsPlan, ForgetsLate}
+use Rattle.schemas.specs.FieldRules.{BelongsToResource, IsRequiredFairly, HasKnownGate, IsSpelledThroughout}
+use Rattle.schemas.specs.SpellRules.{SpellsPairOnce, HasOwnPath, FitsField}
 
 -- HR1: first and last are there, and first isn't above last
 abbrev pub HasReleases : Dated → Type 0
@@ -27,11 +33,19 @@ IsGateBy last earlier x = x.since ≤ last
 abbrev pub IsApiBy : ℕ → List ApiEntry → ApiEntry → Type 0
 IsApiBy last earlier x = x.since ≤ last
 
--- a history that keeps the rules HR1 to HR10, each in its turn
+abbrev pub IsFieldBy : ℕ → List Field → Field → Type 0
+IsFieldBy last earlier x = x.since ≤ last
+
+abbrev pub IsSpellBy : ℕ → List Spell → Spell → Type 0
+IsSpellBy last earlier x = x.since ≤ last
+
+-- a history that keeps the rules HR1 to HR16, each in its turn
 pub record IsAccepted (h : Dated) : Type 0 where
   pub releases : HasReleases h
   pub gates_by_last : Each (IsGateBy (last_of h)) h.gates
   pub apis_by_last : Each (IsApiBy (last_of h)) h.apis
+  pub fields_by_last : Each (IsFieldBy (last_of h)) h.fields
+  pub spells_by_last : Each (IsSpellBy (last_of h)) h.spells
   pub gates_rise : Each RisesInGate h.gates
   pub gates_fit_stages : Each FitsStage h.gates
   pub gates_end_locked : Each FollowsLockedSpec h.gates
@@ -40,6 +54,13 @@ pub record IsAccepted (h : Dated) : Type 0 where
   pub deprecations_fair : Each (DeprecatesFairly h.apis) h.apis
   pub removals_planned : Each (KeepsPlan h.apis (last_of h)) h.apis
   pub forgettings_late : Each (ForgetsLate h.apis) h.apis
+  pub fields_belong : Each (BelongsToResource (first_of h) h.apis) h.fields
+  pub required_fairly : Each (IsRequiredFairly h.apis) h.fields
+  pub guards_known : Each (HasKnownGate (first_of h) h.gates) h.fields
+  pub spelled_throughout : Each (IsSpelledThroughout h.apis h.spells) h.fields
+  pub spelled_once : Each (SpellsPairOnce h.apis h.fields) h.spells
+  pub paths_apart : Each HasOwnPath h.spells
+  pub types_fit : Each (FitsField h.fields) h.spells
 
 -- one test of a history: the rule, the array that it goes over, and which entry number breaks it there
 pub record Check : Type 1 where
@@ -53,21 +74,54 @@ gate_check rule Keeps = record { rule = rule; array = Gate; IsBrokenAt = λ h. B
 abbrev pub api_check : ℕ → (Dated → List ApiEntry → ApiEntry → Type 0) → Check
 api_check rule Keeps = record { rule = rule; array = Api; IsBrokenAt = λ h. Breaks (Keeps h) h.apis }
 
--- the tests, in the order in which they are made
-abbrev pub checks : List Check
-checks =
-    record { rule = 1; array = Top; IsBrokenAt = λ h number. (number ≡ 0) × ¬ HasReleases h }
-    ∷ gate_check 2 (λ h. IsGateBy (last_of h))
+abbrev pub field_check : ℕ → (Dated → List Field → Field → Type 0) → Check
+field_check rule Keeps = record { rule = rule; array = FieldArray; IsBrokenAt = λ h. Breaks (Keeps h) h.fields }
+
+abbrev pub spell_check : ℕ → (Dated → List Spell → Spell → Type 0) → Check
+spell_check rule Keeps = record { rule = rule; array = SpellArray; IsBrokenAt = λ h. Breaks (Keeps h) h.spells }
+
+-- the test of the releases, those of the dates, and those of gates, of versions, and of fields and spellings
+abbrev pub release_check : Check
+release_check = record { rule = 1; array = Top; IsBrokenAt = λ h number. (number ≡ 0) × ¬ HasReleases h }
+
+abbrev pub date_checks : List Check
+date_checks =
+    gate_check 2 (λ h. IsGateBy (last_of h))
     ∷ api_check 2 (λ h. IsApiBy (last_of h))
-    ∷ gate_check 3 (λ h. RisesInGate)
+    ∷ field_check 2 (λ h. IsFieldBy (last_of h))
+    ∷ spell_check 2 (λ h. IsSpellBy (last_of h))
+    ∷ []
+
+abbrev pub gate_checks : List Check
+gate_checks =
+    gate_check 3 (λ h. RisesInGate)
     ∷ gate_check 4 (λ h. FitsStage)
     ∷ gate_check 5 (λ h. FollowsLockedSpec)
-    ∷ api_check 6 (λ h. StandsInOrder)
+    ∷ []
+
+abbrev pub api_checks : List Check
+api_checks =
+    api_check 6 (λ h. StandsInOrder)
     ∷ api_check 7 (λ h. NamesItsKind)
     ∷ api_check 8 (λ h. DeprecatesFairly h.apis)
     ∷ api_check 9 (λ h. KeepsPlan h.apis (last_of h))
     ∷ api_check 10 (λ h. ForgetsLate h.apis)
     ∷ []
+
+abbrev pub field_checks : List Check
+field_checks =
+    field_check 11 (λ h. BelongsToResource (first_of h) h.apis)
+    ∷ field_check 12 (λ h. IsRequiredFairly h.apis)
+    ∷ field_check 13 (λ h. HasKnownGate (first_of h) h.gates)
+    ∷ field_check 14 (λ h. IsSpelledThroughout h.apis h.spells)
+    ∷ spell_check 14 (λ h. SpellsPairOnce h.apis h.fields)
+    ∷ spell_check 15 (λ h. HasOwnPath)
+    ∷ spell_check 16 (λ h. FitsField h.fields)
+    ∷ []
+
+-- the tests, in the order in which they are made
+abbrev pub checks : List Check
+checks = release_check ∷ date_checks ++ gate_checks ++ api_checks ++ field_checks
 
 -- no entry breaks any of the rules
 abbrev pub IsUnbroken : Dated → List Check → Type 0
@@ -80,3 +134,7 @@ IsFirstFault h [] rule array number = ⊥
 IsFirstFault h (check ∷ more) rule array number =
     ((rule ≡ check.rule) × (array ≡ check.array) × IsFirst (check.IsBrokenAt h) number)
     ⊎ (((k : ℕ) → ¬ check.IsBrokenAt h k) × IsFirstFault h more rule array number)
+
+-- what the tests find: the first fault, or that there is none
+abbrev pub FindsFault : Dated → List Check → Option Broken → Type 0
+FindsFault h tests found = MatchOption found (IsUnbroken h tests) (λ b. IsFirstFault h tests b.rule b.array b.index)

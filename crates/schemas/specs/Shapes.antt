@@ -1,6 +1,9 @@
 -- The shapes of the texts in a release history.
-use Rattle.std.specs.Prelude.{ℕ, ◌≡◌, ◌≢◌, ◌≤◌, ◌⊎◌, List, [], length, codes}
-use Rattle.basis.specs.Names.{IsLowerOrDigit, IsDottedLabels, BeginsLower, BeginsUpper}
+use Rattle.std.specs.Prelude.{ℕ, ◌≡◌, ◌≢◌, ◌≤◌, ◌⊎◌, List, [], length, codes, IfSome}
+use Rattle.basis.specs.Names.{IsLowerOrDigit, IsLetterOrDigit, IsDottedLabels, BeginsLower, BeginsUpper}
+use Rattle.fields.specs.Table.{IsPath}
+use Rattle.fields.specs.declared.field.Field.{Field}
+use Rattle.fields.specs.declared.field.Spell.{Spell}
 use Rattle.gate_spec.specs.declared.entry.GateEntry.{GateEntry}
 use Rattle.lifecycle.specs.Version.{IsVersion}
 use Rattle.lifecycle.specs.declared.entry.ApiChange.{ApiChange}
@@ -25,6 +28,10 @@ IsResource text = BeginsLower 63 IsLowerOrDigit text
 abbrev pub IsKind : List ℕ → Type 0
 IsKind text = BeginsUpper 63 text
 
+-- the id of a field within its resource
+abbrev pub IsFieldId : List ℕ → Type 0
+IsFieldId text = BeginsLower 63 IsLetterOrDigit text
+
 abbrev pub IsShapedChange : ApiChange → Type 0
 IsShapedChange (Introduced kind singular namespaced enabled) = IsKind kind × IsResource singular
 IsShapedChange (Deprecated removal replacement) = IsVersion replacement
@@ -40,3 +47,16 @@ pub record IsShapedApi (x : ApiEntry) : Type 0 where
   pub version : IsVersion x.version
   pub resource : IsResource x.resource
   pub change : IsShapedChange x.change
+
+pub record IsShapedField (x : Field) : Type 0 where
+  pub group : IsGroup x.group
+  pub resource : IsResource x.resource
+  pub id : IsFieldId x.id
+  pub gate : IfSome x.gate IsGateName
+
+pub record IsShapedSpell (x : Spell) : Type 0 where
+  pub group : IsGroup x.group
+  pub resource : IsResource x.resource
+  pub version : IsVersion x.version
+  pub field : IsFieldId x.field
+  pub path : IsPath x.path

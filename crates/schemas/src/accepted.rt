@@ -2,7 +2,7 @@ use crate::history::History;
 use minor_version::{Minor, floor};
 use std::marker::Model;
 
-/// A history that keeps the rules HR1 to HR10, seen as that history. Its type keeps that it does.
+/// A history that keeps the rules HR1 to HR16, seen as that history. Its type keeps that it does.
 #[derive(Debug, Drop)]
 pub struct Accepted {
     history: History,

@@ -1,4 +1,5 @@
 use basis::Sequence;
+use fields::{FieldList, SpellList};
 use gate_spec::GateEntry;
 use lifecycle::ApiEntry;
 use minor_version::Minor;
@@ -18,6 +19,8 @@ pub struct History {
     pub last: Option<Minor>,
     pub gates: GateList,
     pub apis: ApiList,
+    pub fields: FieldList,
+    pub spells: SpellList,
 }
 
 impl Model for History {

@@ -1,6 +1,8 @@
 //! What follows from the rules, each as the contract of a function that does nothing.
 ghost use Rattle.schemas.specs.Rules.{IsAccepted};
-ghost use Rattle.schemas.specs.Laws.{GatesRise, IsIntroducedOnce, KindsStayLive, HasOneFirstFault, IsJoined};
+ghost use Rattle.schemas.specs.Laws.{GatesRise, IsIntroducedOnce, KindsStayLive, HasOneFirstFault, IsJoined, ArePairsKept, LiveStaysDecodable, DecodableIsSpelled, PathsAreApart};
+ghost use Rattle.std.specs.Prelude.{◌↔◌};
+ghost use Rattle.schemas.specs.Pairs.{AreSpelledOnce};
 
 use crate::history::History;
 
@@ -35,6 +37,36 @@ pub fn version_is_introduced_once(h: &History)
 /// A kind that is live at a release is live at every later one (by HR9).
 pub fn live_kind_stays_live(h: &History)
     ensures { IsAccepted h.now → KindsStayLive h.now }
+{
+    let _history = h;
+}
+
+/// HR14 is kept exactly where each pair of a field and a version has exactly one spelling, and each spelling is that of
+/// a pair.
+pub fn pairs_have_one_spelling(h: &History)
+    ensures { ArePairsKept h.now ↔ AreSpelledOnce h.now.apis h.now.fields h.now.spells }
+{
+    let _history = h;
+}
+
+/// The paths of two spellings of one version are apart (by HR15).
+pub fn paths_are_apart(h: &History)
+    ensures { IsAccepted h.now → PathsAreApart h.now.spells }
+{
+    let _history = h;
+}
+
+/// A version that is live at a release is decodable from it up to three releases later (by HR10).
+pub fn live_version_stays_decodable(h: &History)
+    ensures { IsAccepted h.now → LiveStaysDecodable h.now.apis }
+{
+    let _history = h;
+}
+
+/// In a version that is decodable at a release each field of its resource that is there by then is spelled exactly once
+/// (by HR6, HR11 and HR14).
+pub fn decodable_version_is_spelled(h: &History)
+    ensures { IsAccepted h.now → DecodableIsSpelled h.now }
 {
     let _history = h;
 }

@@ -3,6 +3,7 @@
 
 mod accepted;
 mod array;
+mod broken;
 mod history;
 mod laws;
 mod shapes;
@@ -11,9 +12,11 @@ mod tests;
 
 pub use accepted::Accepted;
 pub use array::Array;
+pub use broken::Broken;
 pub use history::{ApiList, GateList, History};
 pub use laws::{
-    accepted_is_unbroken, first_fault_is_one, gates_rise_in_date, live_kind_stays_live,
+    accepted_is_unbroken, decodable_version_is_spelled, first_fault_is_one, gates_rise_in_date,
+    live_kind_stays_live, live_version_stays_decodable, pairs_have_one_spelling, paths_are_apart,
     version_is_introduced_once,
 };
-pub use shapes::{is_gate_name, is_group, is_kind, is_resource};
+pub use shapes::{is_field_id, is_gate_name, is_group, is_kind, is_resource};

@@ -1,8 +1,8 @@
 //! Tests of the shapes that the texts of a history have.
 ghost use Rattle.std.specs.Prelude.{◌↔◌, IsTrue};
-ghost use Rattle.schemas.specs.Shapes.{IsGateName, IsGroup, IsResource, IsKind};
+ghost use Rattle.schemas.specs.Shapes.{IsGateName, IsGroup, IsResource, IsKind, IsFieldId};
 
-use basis::{is_dotted_labels, is_lower_word, is_pascal_word};
+use basis::{is_camel_word, is_dotted_labels, is_lower_word, is_pascal_word};
 
 /// The greatest length of a name in a history, in bytes.
 const LONGEST_NAME: usize = 63;
@@ -36,4 +36,11 @@ pub fn is_kind(text: &[u8]) -> bool
     ensures { IsTrue result ↔ IsKind text.now }
 {
     is_pascal_word(text, LONGEST_NAME)
+}
+
+/// Whether the text can be the id of a field: a lower-case letter, then letters and digits, at most 63 bytes.
+pub fn is_field_id(text: &[u8]) -> bool
+    ensures { IsTrue result ↔ IsFieldId text.now }
+{
+    is_camel_word(text, LONGEST_NAME)
 }

@@ -5,7 +5,7 @@ use Rattle.std.proofs.lemmas.Iterator.{cases_from_all, YieldsList-from_slice}
 use borrow.Author.Tests.{tests}
 use Rattle.fields.specs.declared.field.Spell.{Spell}
 use Rattle.field_rules.specs.Listing.{EachLent}
-use Rattle.field_rules.specs.Paths.{AreApart}
+use Rattle.fields.specs.Table.{AreApart}
 use Rattle.field_rules.proofs.ListingLemmas.{each_told}
 use Rattle.field_rules.proofs.entries.is_apart_from.Goals as goal
 

@@ -1,7 +1,7 @@
 use Rattle.std.proofs.Common.{◌≡◌, ◌++◌, ℕ, List, [], ◌∷◌, Bool, Some, None, cond, sym, ap, ◌∙◌}
-use Rattle.field_rules.specs.NameMap.{value_at, is_same_name}
+use Rattle.basis.specs.NameMap.{value_at, is_same_name}
 use Rattle.field_rules.specs.Listing.{lent, listed_at}
-use Rattle.field_rules.proofs.NameLemmas.{same_name}
+use Rattle.basis.proofs.NameLemmas.{same_name}
 use Rattle.field_rules.proofs.ListingLemmas.{listed_in, lent_push, added, moved}
 use Rattle.field_rules.proofs.listing.add.Goals as goal
 use Rattle.field_rules.proofs.listing.add.Goals.{in-Some, in-None}

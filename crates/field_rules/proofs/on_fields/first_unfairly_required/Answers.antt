@@ -1,5 +1,5 @@
 use Rattle.std.proofs.Common.{rules, arith}
-use Rattle.field_rules.specs.FieldRules.{IsRequiredFairly}
+use Rattle.schemas.specs.FieldRules.{IsRequiredFairly}
 use Rattle.schemas.proofs.PlaceLemmas.{each_more, each_whole, first_broken}
 use Rattle.field_rules.proofs.on_fields.first_unfairly_required.Goals as goal
 

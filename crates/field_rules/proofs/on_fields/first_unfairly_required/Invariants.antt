@@ -1,4 +1,4 @@
-use Rattle.field_rules.specs.FieldRules.{IsRequiredFairly}
+use Rattle.schemas.specs.FieldRules.{IsRequiredFairly}
 use Rattle.schemas.proofs.PlaceLemmas.{EachBelow}
 use Rattle.field_rules.proofs.on_fields.first_unfairly_required.Given as goal
 

@@ -1,4 +1,4 @@
-use Rattle.field_rules.specs.FieldRules.{IsSpelledThroughout}
+use Rattle.schemas.specs.FieldRules.{IsSpelledThroughout}
 use Rattle.schemas.proofs.PlaceLemmas.{EachBelow}
 use Rattle.field_rules.proofs.on_fields.first_unspelled.Given as goal
 

@@ -1,5 +1,5 @@
 use Rattle.std.proofs.Common.{rules, arith}
-use Rattle.field_rules.specs.SpellRules.{FitsField}
+use Rattle.schemas.specs.SpellRules.{FitsField}
 use Rattle.schemas.proofs.PlaceLemmas.{each_more, each_whole, first_broken}
 use Rattle.field_rules.proofs.on_spellings.first_unfit.Goals as goal
 

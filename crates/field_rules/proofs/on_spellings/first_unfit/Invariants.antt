@@ -1,4 +1,4 @@
-use Rattle.field_rules.specs.SpellRules.{FitsField}
+use Rattle.schemas.specs.SpellRules.{FitsField}
 use Rattle.schemas.proofs.PlaceLemmas.{EachBelow}
 use Rattle.field_rules.proofs.on_spellings.first_unfit.Given as goal
 

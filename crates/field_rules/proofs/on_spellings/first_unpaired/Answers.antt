@@ -1,7 +1,7 @@
 use Rattle.std.proofs.Common.{rules, arith, ◌≡◌, ◌+◌, ◌↔◌, List, [], ◌∷◌, ◌++◌, take, sym, ap, subst, ◌∙◌, IsTrue}
 use Rattle.std.proofs.lemmas.List.{take_more}
 use Rattle.fields.specs.declared.field.Spell.{Spell}
-use Rattle.field_rules.specs.SpellRules.{SpellsPairOnce}
+use Rattle.schemas.specs.SpellRules.{SpellsPairOnce}
 use Rattle.field_rules.specs.Keys.{version_of_spell}
 use Rattle.field_rules.specs.Listing.{IsListing}
 use Rattle.schemas.proofs.PlaceLemmas.{each_more, each_whole, first_broken}

@@ -1,31 +1,29 @@
--- The laws of lawful fields and spellings.
-use Rattle.std.proofs.Common.{ℕ, ◌≡◌, ◌+◌, ◌<◌, ◌≤◌, List, Option, Some, None, length, take, max, refl, sym, ap, subst, ◌∙◌, arith, inl, inr}
+-- The laws of the fields and spellings of accepted histories.
+use Rattle.std.proofs.Common.{ℕ, ◌≡◌, ◌+◌, ◌<◌, ◌≤◌, List, Option, Some, None, length, take, max, sym, ap, subst, ◌∙◌, arith, inl, inr}
 use Rattle.std.specs.Prelude.{◌&&◌, slice_get, All, Any}
 use Rattle.std.specs.Str.{bytes_eq}
 use Rattle.std.proofs.lemmas.Bool.{and_parts, cases_order}
 use Rattle.std.proofs.lemmas.List.{get_or-take, length-take-le}
-use Rattle.std.proofs.lemmas.Option.{slice_get_read, slice_get_within, get_or_from_slice_get}
+use Rattle.std.proofs.lemmas.Option.{slice_get_within, get_or_from_slice_get}
 use Rattle.std.proofs.lemmas.Slice.Eq.{bytes_eq-Decides}
 use Rattle.basis.proofs.ElementLemmas.{Any-weaker}
+use Rattle.fields.specs.Table.{AreApart}
 use Rattle.fields.specs.declared.field.Field.{Field}
 use Rattle.fields.specs.declared.field.Spell.{Spell}
-use Rattle.lifecycle.specs.Entry.{GroupVersionResource, subject, IsIntroduction, IsRemoval, IsKnownOf, IsIntroduced, IsRemoved, IsLive}
+use Rattle.lifecycle.specs.Entry.{GroupVersionResource, subject, IsIntroduction, IsRemoval, IsKnownOf, IsRemoved, IsLive}
 use Rattle.lifecycle.specs.declared.entry.ApiChange.{ApiChange}
 use Rattle.lifecycle.specs.declared.entry.ApiChange.TheVariants.{Introduced, Deprecated, Removed, Forgotten}
 use Rattle.lifecycle.specs.declared.entry.ApiEntry.{ApiEntry}
 use Rattle.schemas.specs.ApiRules.{is_of_version, previous_of_version, name_of, IsForgetting, IsForgotten, IsLateAfter, IsForgottenLate, ForgetsLate}
+use Rattle.schemas.specs.Dated.{Dated}
 use Rattle.schemas.specs.Places.{Each}
+use Rattle.schemas.specs.Rules.{IsAccepted}
+use Rattle.schemas.proofs.LawLemmas.{any_stands, introduced_later, introduced_once}
 use Rattle.schemas.proofs.PlaceLemmas.{some_injective}
 use Rattle.schemas.proofs.PreviousLemmas.{entry_at, IsLast, last_passing_is}
-use Rattle.field_rules.specs.FieldRules.{AreOneField}
-use Rattle.field_rules.specs.Laws.{ArePairsKept, IsDecodable, LiveStaysDecodable, AreIntroducedOnce, IsSpelledOnceBy, DecodableIsSpelled, PathsAreApart}
-use Rattle.field_rules.specs.Pairs.{IsPair, IsOfField, IsOfVersion, IsSpelling, SpellsPair, AreOfOneVersion, AreOfOnePair, HasOneSpelling, AreSpelledOnce}
-use Rattle.field_rules.specs.Paths.{AreApart}
-use Rattle.field_rules.specs.Rules.{Lists, AreLawful}
-
--- some entry of a list, by its place
-any_stands : {E : Type 0} (P : E → Type 0) (xs : List E) → (any : Any P xs) → slice_get xs any.0 ≡ Some any.1
-any_stands P xs any = slice_get_read xs (length xs) any.0 any.1 refl any.2 (sym any.3)
+use Rattle.schemas.specs.FieldRules.{AreOneField}
+use Rattle.schemas.specs.Laws.{ArePairsKept, IsDecodable, LiveStaysDecodable, IsIntroducedOnce, IsSpelledOnceBy, DecodableIsSpelled, PathsAreApart}
+use Rattle.schemas.specs.Pairs.{IsPair, IsOfField, IsOfVersion, IsSpelling, SpellsPair, AreOfOneVersion, AreOfOnePair, HasOneSpelling, AreSpelledOnce}
 
 some_at : {E : Type 0} (P : E → Type 0) (xs : List E) (i : ℕ) (x : E) → slice_get xs i ≡ Some x → P x → Any P xs
 some_at P xs i x stands here = (i, x, slice_get_within xs i x stands, get_or_from_slice_get xs i x x stands, here)
@@ -77,10 +75,6 @@ removed_before apis name m e k x near bound known (Some y) last late =
       late.0,
     )
 
-introduced_later : (apis : List ApiEntry) (name : GroupVersionResource) (m e : ℕ) → m ≤ e → IsIntroduced apis name m → IsIntroduced apis name e
-introduced_later apis name m e later = Any-weaker (λ x. IsKnownOf name m x × IsIntroduction x.change) (λ x. IsKnownOf name e x × IsIntroduction x.change) apis
-    (λ x (w : IsKnownOf name m x × IsIntroduction x.change). (record { group = w.0.group; version = w.0.version; resource = w.0.resource; dated = (let d : x.since ≤ m = w.0.dated in omega arith) }, w.1))
-
 pub stays_decodable : (apis : List ApiEntry) → Each (ForgetsLate apis) apis → LiveStaysDecodable apis
 stays_decodable apis late = λ (name : GroupVersionResource) (m e : ℕ) (later : m ≤ e) (near : e ≤ m + 3) (live : IsLive apis name m). (
   introduced_later apis name m e later live.0,
@@ -101,10 +95,10 @@ one_pair f name s t first second = (
 )
 
 -- HR14: two spellings of one field in one version stand at one place
-one_spelling : (h : Lists) → ArePairsKept h → (f : Field) (name : GroupVersionResource) (i j : ℕ) (s t : Spell) → slice_get h.spells i ≡ Some s → slice_get h.spells j ≡ Some t → IsSpelling f name s → IsSpelling f name t → i ≡ j
+one_spelling : (h : Dated) → ArePairsKept h → (f : Field) (name : GroupVersionResource) (i j : ℕ) (s t : Spell) → slice_get h.spells i ≡ Some s → slice_get h.spells j ≡ Some t → IsSpelling f name s → IsSpelling f name t → i ≡ j
 one_spelling h kept f name i j s t at_i at_j first second = one_place AreOfOnePair h.spells (λ k x stands. (kept.of_spellings k x stands).single) i j s t at_i at_j (one_pair f name s t first second) (one_pair f name t s second first)
 
-pub pairs_spelled_once : (h : Lists) → ArePairsKept h → AreSpelledOnce h.apis h.fields h.spells
+pub pairs_spelled_once : (h : Dated) → ArePairsKept h → AreSpelledOnce h.apis h.fields h.spells
 pairs_spelled_once h kept = record {
   pairs = λ (i j : ℕ) (f : Field) (x : ApiEntry) (at_i : slice_get h.fields i ≡ Some f) (at_j : slice_get h.apis j ≡ Some x) (pair : IsPair h.apis f x). record {
     some = each_at (λ a. IsPair h.apis f a → Any (IsSpelling f (subject a)) h.spells) h.apis j x at_j (kept.of_fields i f at_i) pair;
@@ -126,7 +120,7 @@ all_earlier_at {E} P xs n bound each = λ (k : ℕ) (d : E) (within : k < length
     subst P (sym (get_or-take n xs k d low ∙ get_or_from_slice_get xs k at.0 d at.1)) (each k at.0 low at.1)
 
 -- a second spelling of a pair stands at another place than the first
-apart_of_pair : (h : Lists) → AreSpelledOnce h.apis h.fields h.spells → (i k : ℕ) (s t : Spell) → k < i → slice_get h.spells i ≡ Some s → slice_get h.spells k ≡ Some t → ¬ AreOfOnePair s t
+apart_of_pair : (h : Dated) → AreSpelledOnce h.apis h.fields h.spells → (i k : ℕ) (s t : Spell) → k < i → slice_get h.spells i ≡ Some s → slice_get h.spells k ≡ Some t → ¬ AreOfOnePair s t
 apart_of_pair h once i k s t less at_i at_k same =
     let Q : Field → Type 0 = λ f. IsOfField f s × Any (SpellsPair h.apis f s) h.apis in
     let paired : Any Q h.fields = once.spellings i s at_i in
@@ -142,7 +136,7 @@ apart_of_pair h once i k s t less at_i at_k same =
     let place : k ≡ i = (once.pairs paired.0 entry.0 paired.1 entry.1 (any_stands Q h.fields paired) (any_stands (SpellsPair h.apis paired.1 s) h.apis entry) spells.pair).one k i t s at_k at_i there here in
     absurd (omega arith)
 
-pub pairs_kept : (h : Lists) → AreSpelledOnce h.apis h.fields h.spells → ArePairsKept h
+pub pairs_kept : (h : Dated) → AreSpelledOnce h.apis h.fields h.spells → ArePairsKept h
 pairs_kept h once = record {
   of_fields = λ i f at_i. all_at (λ a. IsPair h.apis f a → Any (IsSpelling f (subject a)) h.spells) h.apis (λ j x at_j (pair : IsPair h.apis f x). (once.pairs i j f x at_i at_j pair).some);
   of_spellings = λ (i : ℕ) (s : Spell) (at_i : slice_get h.spells i ≡ Some s).
@@ -154,29 +148,29 @@ pairs_kept h once = record {
       };
 }
 
-pairs_of : (h : Lists) → AreLawful h → ArePairsKept h
+pairs_of : (h : Dated) → IsAccepted h → ArePairsKept h
 pairs_of h lawful = record { of_fields = lawful.spelled_throughout; of_spellings = lawful.spelled_once }
 
 -- HR15: paths are apart both ways
 turned : (p q : List (List ℕ)) → AreApart p q → AreApart q p
-turned p q apart = record { first_not_prefix = apart.second_not_prefix; second_not_prefix = apart.first_not_prefix }
+turned p q apart = record { not_through = apart.not_within; not_within = apart.not_through }
 
-pub paths_apart : (h : Lists) → AreLawful h → PathsAreApart h.spells
+pub paths_apart : (h : Dated) → IsAccepted h → PathsAreApart h.spells
 paths_apart h lawful = λ (i j : ℕ) (s t : Spell) (less : i < j) (at_i : slice_get h.spells i ≡ Some s) (at_j : slice_get h.spells j ≡ Some t) (one : AreOfOneVersion s t).
     let within : j < length h.spells = slice_get_within h.spells j t at_j in
     let bound : j ≤ length h.spells = omega arith in
     turned t.path s.path (earlier_at (λ u. AreOfOneVersion t u → AreApart t.path u.path) h.spells i j s less bound at_i (lawful.paths_apart j t at_j).apart (record { group = sym one.group; version = sym one.version; resource = sym one.resource }))
 
 -- the field of a spelling and the introduction of its version are those that it names
-one_field : (h : Lists) → AreLawful h → (i j : ℕ) (f g : Field) → slice_get h.fields i ≡ Some f → slice_get h.fields j ≡ Some g → AreOneField f g → AreOneField g f → f ≡ g
+one_field : (h : Dated) → IsAccepted h → (i j : ℕ) (f g : Field) → slice_get h.fields i ≡ Some f → slice_get h.fields j ≡ Some g → AreOneField f g → AreOneField g f → f ≡ g
 one_field h lawful i j f g at_i at_j one two =
     let same : i ≡ j = one_place AreOneField h.fields (λ k x stands. (lawful.fields_belong k x stands).once) i j f g at_i at_j one two in
     some_injective f g (sym at_i ∙ subst (λ (k : ℕ). slice_get h.fields k ≡ Some g) (sym same) at_j)
 
-one_introduction : (apis : List ApiEntry) → AreIntroducedOnce apis → (i j : ℕ) (x y : ApiEntry) → slice_get apis i ≡ Some x → slice_get apis j ≡ Some y → subject x ≡ subject y → IsIntroduction x.change → IsIntroduction y.change → x ≡ y
-one_introduction apis once i j x y at_i at_j same first second =
+one_introduction : (h : Dated) → IsIntroducedOnce h → (i j : ℕ) (x y : ApiEntry) → slice_get h.apis i ≡ Some x → slice_get h.apis j ≡ Some y → subject x ≡ subject y → IsIntroduction x.change → IsIntroduction y.change → x ≡ y
+one_introduction h once i j x y at_i at_j same first second =
     elim (cases_order i j) [
-      | inl here ↦ some_injective x y (sym at_i ∙ subst (λ (k : ℕ). slice_get apis k ≡ Some y) (sym here) at_j)
+      | inl here ↦ some_injective x y (sym at_i ∙ subst (λ (k : ℕ). slice_get h.apis k ≡ Some y) (sym here) at_j)
       | inr other ↦ elim other [
         | inl less ↦ absurd (once i j x y less at_i at_j (record { group = ap (λ (n : GroupVersionResource). n.group) same; version = ap (λ (n : GroupVersionResource). n.version) same; resource = ap (λ (n : GroupVersionResource). n.resource) same }) first second)
         | inr more ↦ absurd (once j i y x more at_j at_i (record { group = ap (λ (n : GroupVersionResource). n.group) (sym same); version = ap (λ (n : GroupVersionResource). n.version) (sym same); resource = ap (λ (n : GroupVersionResource). n.resource) (sym same) }) second first)
@@ -194,8 +188,8 @@ forgotten_later apis name m e later = Any-weaker (λ x. IsKnownOf name m x × Is
     (λ x (w : IsKnownOf name m x × IsForgetting x.change). (record { group = w.0.group; version = w.0.version; resource = w.0.resource; dated = (let d : x.since ≤ m = w.0.dated in omega arith) }, w.1))
 
 -- a spelling of a pair is dated when both the field and the version are there
-dated_by : (h : Lists) → AreLawful h → AreIntroducedOnce h.apis → (i j k e : ℕ) (f : Field) (x : ApiEntry) (s : Spell) → slice_get h.fields i ≡ Some f → slice_get h.apis j ≡ Some x → slice_get h.spells k ≡ Some s → IsIntroduction x.change → IsSpelling f (subject x) s → f.since ≤ e → x.since ≤ e → s.since ≤ e
-dated_by h lawful once i j k e f x s at_i at_j at_k is spelling field_by version_by =
+dated_by : (h : Dated) → IsAccepted h → (i j k e : ℕ) (f : Field) (x : ApiEntry) (s : Spell) → slice_get h.fields i ≡ Some f → slice_get h.apis j ≡ Some x → slice_get h.spells k ≡ Some s → IsIntroduction x.change → IsSpelling f (subject x) s → f.since ≤ e → x.since ≤ e → s.since ≤ e
+dated_by h lawful i j k e f x s at_i at_j at_k is spelling field_by version_by =
     let Q : Field → Type 0 = λ g. IsOfField g s × Any (SpellsPair h.apis g s) h.apis in
     let paired : Any Q h.fields = (lawful.spelled_once k s at_k).paired in
     let of : IsOfField paired.1 s = paired.4.0 in
@@ -204,13 +198,13 @@ dated_by h lawful once i j k e f x s at_i at_j at_k is spelling field_by version
     let field : f ≡ paired.1 = one_field h lawful i paired.0 f paired.1 at_i (any_stands Q h.fields paired)
     (record { group = of.group ∙ sym spelling.0.group; resource = of.resource ∙ sym spelling.0.resource; id = of.id ∙ sym spelling.0.id })
     (record { group = spelling.0.group ∙ sym of.group; resource = spelling.0.resource ∙ sym of.resource; id = spelling.0.id ∙ sym of.id }) in
-    let version : x ≡ entry.1 = one_introduction h.apis once j entry.0 x entry.1 at_j (any_stands (SpellsPair h.apis paired.1 s) h.apis entry)
+    let version : x ≡ entry.1 = one_introduction h (introduced_once h lawful) j entry.0 x entry.1 at_j (any_stands (SpellsPair h.apis paired.1 s) h.apis entry)
     (named_of (subject x) s spelling.1 ∙ sym (named_of (subject entry.1) s spells.spelling)) is spells.pair.version.introduces in
     let dated : s.since ≡ max f.since x.since = spells.dated ∙ ap (λ (g : Field). max g.since entry.1.since) (sym field) ∙ ap (λ (a : ApiEntry). max f.since a.since) (sym version) in
     omega arith
 
-pub decodable_spelled : (h : Lists) → AreIntroducedOnce h.apis → AreLawful h → DecodableIsSpelled h
-decodable_spelled h once lawful = λ (name : GroupVersionResource) (e i : ℕ) (f : Field) (decodable : IsDecodable h.apis name e) (at_i : slice_get h.fields i ≡ Some f) (of_group : f.group ≡ name.group) (of_resource : f.resource ≡ name.resource) (by : f.since ≤ e).
+pub decodable_spelled : (h : Dated) → IsAccepted h → DecodableIsSpelled h
+decodable_spelled h lawful = λ (name : GroupVersionResource) (e i : ℕ) (f : Field) (decodable : IsDecodable h.apis name e) (at_i : slice_get h.fields i ≡ Some f) (of_group : f.group ≡ name.group) (of_resource : f.resource ≡ name.resource) (by : f.since ≤ e).
     let P : ApiEntry → Type 0 = λ x. IsKnownOf name e x × IsIntroduction x.change in
     let known : IsKnownOf name e decodable.0.1 = decodable.0.4.0 in
     let is : IsIntroduction decodable.0.1.change = decodable.0.4.1 in
@@ -222,6 +216,6 @@ decodable_spelled h once lawful = λ (name : GroupVersionResource) (e i : ℕ) (
     } in
     let spelled : HasOneSpelling h.spells f (subject decodable.0.1) = (pairs_spelled_once h (pairs_of h lawful)).pairs i decodable.0.0 f decodable.0.1 at_i at_j pair in
     let some : Any (IsSpelling f (subject decodable.0.1)) h.spells = spelled.some in
-    let dated : some.1.since ≤ e = dated_by h lawful once i decodable.0.0 some.0 e f decodable.0.1 some.1 at_i at_j (any_stands (IsSpelling f (subject decodable.0.1)) h.spells some) is some.4 by known.dated in
+    let dated : some.1.since ≤ e = dated_by h lawful i decodable.0.0 some.0 e f decodable.0.1 some.1 at_i at_j (any_stands (IsSpelling f (subject decodable.0.1)) h.spells some) is some.4 by known.dated in
     let here : Any (λ s. IsSpelling f (subject decodable.0.1) s × (s.since ≤ e)) h.spells = (some.0, some.1, some.2, some.3, (some.4, dated)) in
     subst (λ (n : GroupVersionResource). IsSpelledOnceBy e h.spells f n) named (record { some = here; one = spelled.one })

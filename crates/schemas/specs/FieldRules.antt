@@ -6,7 +6,7 @@ use Rattle.fields.specs.declared.field.Spell.{Spell}
 use Rattle.gate_spec.specs.declared.entry.GateEntry.{GateEntry}
 use Rattle.lifecycle.specs.Entry.{subject}
 use Rattle.lifecycle.specs.declared.entry.ApiEntry.{ApiEntry}
-use Rattle.field_rules.specs.Pairs.{IntroducesVersionOf, IsPair, IsSpelling}
+use Rattle.schemas.specs.Pairs.{IntroducesVersionOf, IsPair, IsSpelling}
 
 -- y is a field of the resource of x
 abbrev pub is_of_resource : Field → Field → Bool
