@@ -41,10 +41,13 @@ reading_line (fault.BadEntry array index name) = entry_line array index name
 abbrev pub rule_line : ℕ → Array → ℕ → List ℕ
 rule_line rule array number = codes "history: rule HR" ++ (decimal rule ++ (codes " at " ++ (array_name array ++ (codes " " ++ (decimal number ++ codes "\n")))))
 
--- how many entries an accepted history has
+-- how many entries a history has, by array
+abbrev pub counts_text : Dated → List ℕ
+counts_text h = decimal (length h.gates) ++ (codes " gate, " ++ (decimal (length h.apis) ++ (codes " api, " ++ (decimal (length h.fields) ++ (codes " field, " ++ (decimal (length h.spells) ++ codes " spell entries\n"))))))
+
+-- the releases of which an accepted history speaks, and how many entries it has
 abbrev pub accepted_line : Dated → List ℕ
-accepted_line h = codes "accepted " ++ (release_text (first_of h) ++ (codes " to " ++ (release_text (last_of h) ++ (codes ": " ++ (decimal (length h.gates)
-    ++ (codes " gate, " ++ (decimal (length h.apis) ++ codes " api, 0 field, 0 spell entries\n")))))))
+accepted_line h = codes "accepted " ++ (release_text (first_of h) ++ (codes " to " ++ (release_text (last_of h) ++ (codes ": " ++ counts_text h))))
 
 -- why the release to emulate is refused, for a history from first to last
 abbrev pub version_line : ℕ → ℕ → VersionFault → List ℕ

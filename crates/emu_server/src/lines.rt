@@ -53,16 +53,20 @@ pub fn rule_refusal(
 
 fn counts(
     alloc: Global,
-    first: &str,
-    last: &str,
     gates: usize,
     apis: usize,
+    fields: usize,
+    spells: usize,
 ) -> Result<String, AllocError>
-    ensures { IfOk result (λ s. string_bytes s ≡ codes "accepted " ++ (first.now ++ (codes " to " ++ (last.now ++ (codes ": " ++ (decimal gates ++ (codes " gate, " ++ (decimal apis ++ codes " api, 0 field, 0 spell entries\n")))))))) }
+    ensures { IfOk result (λ s. string_bytes s ≡ decimal gates ++ (codes " gate, " ++ (decimal apis ++ (codes " api, " ++ (decimal fields ++ (codes " field, " ++ (decimal spells ++ codes " spell entries\n"))))))) }
 {
-    format!(in alloc;
-        "accepted {first} to {last}: {gates} gate, {apis} api, 0 field, 0 spell entries\n"
-    )
+    format!(in alloc; "{gates} gate, {apis} api, {fields} field, {spells} spell entries\n")
+}
+
+fn acceptance_of(alloc: Global, first: &str, last: &str, counts: &str) -> Result<String, AllocError>
+    ensures { IfOk result (λ s. string_bytes s ≡ codes "accepted " ++ (first.now ++ (codes " to " ++ (last.now ++ (codes ": " ++ counts.now))))) }
+{
+    format!(in alloc; "accepted {first} to {last}: {counts}")
 }
 
 /// How many entries an accepted history has.
@@ -74,7 +78,10 @@ pub fn acceptance(alloc: Global, accepted: &Accepted) -> Result<String, Memory>
     let history = accepted.history();
     let gates = history.gates.items().len();
     let apis = history.apis.items().len();
-    let text = counts(alloc, first.as_str(), last.as_str(), gates, apis)?;
+    let fields = history.fields.items().len();
+    let spells = history.spells.items().len();
+    let counts = counts(alloc, gates, apis, fields, spells)?;
+    let text = acceptance_of(alloc, first.as_str(), last.as_str(), counts.as_str())?;
     Ok(text)
 }
 

@@ -21,6 +21,19 @@ api = [
  {group="demo.example", version="v1", resource="widgets", since="1.30", event="introduced", kind="Widget", singular="widget", namespaced=true, enabled=true},
  {group="demo.example", version="v1alpha1", resource="gadgets", since="1.32", event="introduced", kind="Gadget", singular="gadget", namespaced=true, enabled=false},
 ]
+field = [
+ {group="demo.example", resource="widgets", id="size", since="1.28", type="Int", required=true},
+ {group="demo.example", resource="widgets", id="paused", since="1.28", type="Bool"},
+ {group="demo.example", resource="widgets", id="color", since="1.29", type="Text", gate="WidgetColor"},
+]
+spell = [
+ {group="demo.example", resource="widgets", version="v1beta1", field="size", since="1.28", path="spec.size"},
+ {group="demo.example", resource="widgets", version="v1", field="size", since="1.30", path="spec.dimensions.size"},
+ {group="demo.example", resource="widgets", version="v1beta1", field="paused", since="1.28", path="spec.active", form="Not"},
+ {group="demo.example", resource="widgets", version="v1", field="paused", since="1.30", path="spec.paused"},
+ {group="demo.example", resource="widgets", version="v1beta1", field="color", since="1.29", path="spec.color"},
+ {group="demo.example", resource="widgets", version="v1", field="color", since="1.30", path="spec.color", default="grey"},
+]
 "#;
 
 const AT_33: &str =
@@ -88,7 +101,7 @@ fn answers_on_the_example(rt: HostRuntime) -> Result<(), Fail> {
         (
             &["check"],
             Status::Ok,
-            "accepted 1.28 to 1.33: 6 gate, 5 api, 0 field, 0 spell entries\n",
+            "accepted 1.28 to 1.33: 6 gate, 5 api, 3 field, 6 spell entries\n",
         ),
         (
             &["gates", "--feature-gates=WidgetColor=false"],
@@ -200,7 +213,7 @@ fn histories_that_are_refused(rt: HostRuntime) -> Result<(), Fail> {
     let cases = [
         ("", "history: rule HR1 at top 0\n"),
         ("a = = 1", "history: not TOML\n"),
-        ("field = []", "history: entry top 0 member field\n"),
+        ("field = [1]", "history: entry top 0 member field\n"),
         (
             "first = \"1.28\"\nlast = \"1.33\"\n[[gate]]\nname = \"A\"\nsince = \"1.28\"\nstage = \"GAMMA\"\ndefault = true\n",
             "history: entry gate 1 member stage\n",
@@ -208,6 +221,18 @@ fn histories_that_are_refused(rt: HostRuntime) -> Result<(), Fail> {
         (
             "first = \"1.28\"\nlast = \"1.33\"\n[[gate]]\nname = \"A\"\nsince = \"1.28\"\nstage = \"\"\ndefault = false\n",
             "history: rule HR4 at gate 1\n",
+        ),
+        (
+            "first = \"1.28\"\nlast = \"1.33\"\n[[field]]\ngroup = \"\"\nresource = \"pods\"\nid = \"x\"\nsince = \"1.34\"\ntype = \"Int\"\n",
+            "history: rule HR2 at field 1\n",
+        ),
+        (
+            "first = \"1.28\"\nlast = \"1.33\"\n[[field]]\ngroup = \"\"\nresource = \"pods\"\nid = \"x\"\nsince = \"1.28\"\ntype = \"Int\"\n",
+            "history: rule HR11 at field 1\n",
+        ),
+        (
+            "first = \"1.28\"\nlast = \"1.33\"\n[[spell]]\ngroup = \"\"\nresource = \"pods\"\nversion = \"v1\"\nfield = \"x\"\nsince = \"1.28\"\npath = \"spec.x\"\n",
+            "history: rule HR14 at spell 1\n",
         ),
     ];
     for (text, line) in cases {

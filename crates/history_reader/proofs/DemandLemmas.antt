@@ -1,28 +1,33 @@
 -- The shapes of values.
-use Rattle.std.proofs.Common.{◌≡◌, ◌↔◌, ℕ, Bool, IsTrue, List, [], ◌∷◌, Option, Some, None, IsSome, IsSomeAnd, All, option_and_then, refl, sym, subst}
+use Rattle.std.proofs.Common.{◌≡◌, ◌↔◌, ℕ, Bool, IsTrue, List, [], ◌∷◌, Option, Some, None, IsSome, IsSomeAnd, IfSome, All, option_and_then, refl, sym, subst}
 use Rattle.std.specs.List.{AllByRecursion}
 use Rattle.std.proofs.lemmas.List.Elements.{recursion_from_All, All-from_recursion}
 use Rattle.toml.specs.Data.{Data, as_str, as_table}
 use Rattle.toml.specs.View.{view, items_view}
 use Rattle.toml.specs.declared.value.Value.{Value}
 use Rattle.history_reader.specs.declared.demand.Shape.{Shape}
-use Rattle.history_reader.specs.declared.demand.Shape.TheVariants.{Release, GateName, StageWord, Flag, OnlyTrue, GroupName, VersionWord, ResourceName, KindName, EventWord, Tables}
+use Rattle.history_reader.specs.declared.demand.Shape.TheVariants.{Release, GateName, StageWord, Flag, OnlyTrue, GroupName, VersionWord, ResourceName, KindName, EventWord, FieldId, TypeWord, PathText, FormWord, Scalar, Tables}
 use Rattle.history_reader.specs.Demands.{AreTables, TextHasShape, HasShape}
 
 -- a shape that is none of the other types' is that of a text
-pub text_shape : (s : Shape) (d : Data) (t : List ℕ) (b : Bool) → (s ≡ Flag → ⊥) → (s ≡ OnlyTrue → ⊥) → (s ≡ Tables → ⊥)
+pub text_shape : (s : Shape) (d : Data) (t : List ℕ) (b : Bool) → (s ≡ Flag → ⊥) → (s ≡ OnlyTrue → ⊥) → (s ≡ Scalar → ⊥) → (s ≡ Tables → ⊥)
     → Some t ≡ as_str d → IsTrue b ↔ TextHasShape s t → IsTrue b ↔ HasShape s d
-text_shape Release d t b f o a e h = rw (← e) h
-text_shape GateName d t b f o a e h = rw (← e) h
-text_shape StageWord d t b f o a e h = rw (← e) h
-text_shape Flag d t b f o a e h = absurd (f refl)
-text_shape OnlyTrue d t b f o a e h = absurd (o refl)
-text_shape GroupName d t b f o a e h = rw (← e) h
-text_shape VersionWord d t b f o a e h = rw (← e) h
-text_shape ResourceName d t b f o a e h = rw (← e) h
-text_shape KindName d t b f o a e h = rw (← e) h
-text_shape EventWord d t b f o a e h = rw (← e) h
-text_shape Tables d t b f o a e h = absurd (a refl)
+text_shape Release d t b f o z a e h = rw (← e) h
+text_shape GateName d t b f o z a e h = rw (← e) h
+text_shape StageWord d t b f o z a e h = rw (← e) h
+text_shape Flag d t b f o z a e h = absurd (f refl)
+text_shape OnlyTrue d t b f o z a e h = absurd (o refl)
+text_shape GroupName d t b f o z a e h = rw (← e) h
+text_shape VersionWord d t b f o z a e h = rw (← e) h
+text_shape ResourceName d t b f o z a e h = rw (← e) h
+text_shape KindName d t b f o z a e h = rw (← e) h
+text_shape EventWord d t b f o z a e h = rw (← e) h
+text_shape FieldId d t b f o z a e h = rw (← e) h
+text_shape TypeWord d t b f o z a e h = rw (← e) h
+text_shape PathText d t b f o z a e h = rw (← e) h
+text_shape FormWord d t b f o z a e h = rw (← e) h
+text_shape Scalar d t b f o z a e h = absurd (z refl)
+text_shape Tables d t b f o z a e h = absurd (a refl)
 
 tables_down : (vs : List Value) → AllByRecursion (λ v. IsSome (as_table (view v))) vs → AreTables (items_view vs)
 tables_down [] h = tt
@@ -39,7 +44,16 @@ shaped_str : (P : List ℕ → Type 0) (o : Option (List ℕ)) (t : List ℕ) �
 shaped_str P None t h e = absurd h
 shaped_str P (Some s) t h e = let same : s ≡ t = cc in subst P same h
 
+some_if : (P : List ℕ → Type 0) (o : Option (List ℕ)) → IsSomeAnd o P → IfSome o P
+some_if P None h = tt
+some_if P (Some t) h = h
+
 -- the text of a member whose text is shaped
 pub shaped_text : (P : List ℕ → Type 0) (o : Option Data) (t u : List ℕ) → IsSomeAnd o (λ d. IsSomeAnd (as_str d) P) → option_and_then as_str o ≡ Some t → u ≡ t → P u
 shaped_text P None t u h e same = absurd h
 shaped_text P (Some d) t u h e same = subst P (sym same) (shaped_str P (as_str d) t h e)
+
+-- the same of a member that may be missing
+pub shaped_optional : (P : List ℕ → Type 0) (o : Option Data) (found : Option (List ℕ)) → IfSome o (λ d. IsSomeAnd (as_str d) P) → option_and_then as_str o ≡ found → IfSome found P
+shaped_optional P None found h e = subst (λ (f : Option (List ℕ)). IfSome f P) e tt
+shaped_optional P (Some d) found h e = subst (λ (f : Option (List ℕ)). IfSome f P) e (some_if P (as_str d) h)

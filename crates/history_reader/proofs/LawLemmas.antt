@@ -4,6 +4,12 @@ use Rattle.std.specs.List.{AllByRecursion}
 use Rattle.std.proofs.lemmas.Fmt.{decimal_injective}
 use Rattle.toml.specs.Data.{Members}
 use Rattle.minor_version.specs.Release.{release_text}
+use Rattle.fields.specs.declared.field.Field.{Field}
+use Rattle.fields.specs.declared.field.Form.{Form}
+use Rattle.fields.specs.declared.field.Form.TheVariants as form
+use Rattle.fields.specs.declared.field.Spell.{Spell}
+use Rattle.fields.specs.declared.value.FieldType.{FieldType}
+use Rattle.fields.specs.declared.value.FieldType.TheVariants as type
 use Rattle.gate_spec.specs.Stages.{stage_word}
 use Rattle.gate_spec.specs.declared.entry.Stage.{Stage}
 use Rattle.gate_spec.specs.declared.entry.Stage.TheVariants as stage
@@ -18,8 +24,10 @@ use Rattle.schemas.specs.declared.array.Array.{Array}
 use Rattle.history_reader.specs.declared.read.HistoryFault.{HistoryFault}
 use Rattle.history_reader.specs.declared.read.HistoryFault.TheVariants.{Memory, TooLong, NotToml, BadEntry}
 use Rattle.history_reader.specs.Tree.{IsReleaseAt}
+use Rattle.history_reader.specs.Words.{type_word, form_word}
+use Rattle.std.specs.Prelude.{MatchOption}
 use Rattle.history_reader.specs.Tests.{Place, Test, Passes, IsFirstFault, document_tests}
-use Rattle.history_reader.specs.Meaning.{IsGateChange, IsGateEntry, IsApiChange, IsApiEntry, AreEntries, HoldsRelease, IsHistory, ReadsAs, MeansTree, IsTreeFault, MeansHistory, IsRefused}
+use Rattle.history_reader.specs.Meaning.{IsGateChange, IsGateEntry, IsApiChange, IsApiEntry, IsFieldEntry, IsSpellEntry, AreEntries, HoldsRelease, IsHistory, ReadsAs, MeansTree, IsTreeFault, MeansHistory, IsRefused}
 
 some_injective : {A : Type 0} (o : Option A) (x y : A) → o ≡ Some x → o ≡ Some y → x ≡ y
 some_injective o x y a b = cc
@@ -41,6 +49,9 @@ one_optional name ms (Some k) (Some l) a b = ap Some (one_release name ms k l a 
 
 apart : {A : Type 0} (xs ys : List ℕ) → get_or xs 0 0 ≢ get_or ys 0 0 → xs ≡ ys → A
 apart xs ys other e = absurd (other (ap (λ (zs : List ℕ). get_or zs 0 0) e))
+
+shorter : {A : Type 0} (xs ys : List ℕ) → length xs ≢ length ys → xs ≡ ys → A
+shorter xs ys other e = absurd (other (ap (λ (zs : List ℕ). length zs) e))
 
 one_stage : (s t : Stage) → stage_word s ≡ stage_word t → s ≡ t
 one_stage stage.Alpha stage.Alpha e = refl
@@ -116,6 +127,62 @@ one_api ms x y a b =
     let change : x.change ≡ y.change = one_api_change ms x.change y.change a.change b.change in
     λ i. record { group = group i; version = version i; resource = resource i; since = since i; change = change i }
 
+one_type : (s t : FieldType) → type_word s ≡ type_word t → s ≡ t
+one_type type.Bool type.Bool e = refl
+one_type type.Bool type.Int e = apart _ _ (omega arith) e
+one_type type.Bool type.Text e = apart _ _ (omega arith) e
+one_type type.Bool type.TextList e = apart _ _ (omega arith) e
+one_type type.Int type.Bool e = apart _ _ (omega arith) e
+one_type type.Int type.Int e = refl
+one_type type.Int type.Text e = apart _ _ (omega arith) e
+one_type type.Int type.TextList e = apart _ _ (omega arith) e
+one_type type.Text type.Bool e = apart _ _ (omega arith) e
+one_type type.Text type.Int e = apart _ _ (omega arith) e
+one_type type.Text type.Text e = refl
+one_type type.Text type.TextList e = shorter _ _ (omega arith) e
+one_type type.TextList type.Bool e = apart _ _ (omega arith) e
+one_type type.TextList type.Int e = apart _ _ (omega arith) e
+one_type type.TextList type.Text e = shorter _ _ (omega arith) e
+one_type type.TextList type.TextList e = refl
+
+one_form : (f g : Form) → form_word f ≡ form_word g → f ≡ g
+one_form form.Same form.Same e = refl
+one_form form.Same form.Not e = apart _ _ (omega arith) e
+one_form form.Same form.Decimal e = apart _ _ (omega arith) e
+one_form form.Not form.Same e = apart _ _ (omega arith) e
+one_form form.Not form.Not e = refl
+one_form form.Not form.Decimal e = apart _ _ (omega arith) e
+one_form form.Decimal form.Same e = apart _ _ (omega arith) e
+one_form form.Decimal form.Not e = apart _ _ (omega arith) e
+one_form form.Decimal form.Decimal e = refl
+
+one_held_form : (word : Option (List ℕ)) (f g : Form) → MatchOption word (f ≡ form.Same) (λ w. w ≡ form_word f) → MatchOption word (g ≡ form.Same) (λ w. w ≡ form_word g) → f ≡ g
+one_held_form None f g a b = a ∙ sym b
+one_held_form (Some w) f g a b = one_form f g (sym a ∙ b)
+
+one_field : (ms : Members) (x y : Field) → IsFieldEntry ms x → IsFieldEntry ms y → x ≡ y
+one_field ms x y a b =
+    let group : x.group ≡ y.group = some_injective _ x.group y.group a.group b.group in
+    let resource : x.resource ≡ y.resource = some_injective _ x.resource y.resource a.resource b.resource in
+    let id : x.id ≡ y.id = some_injective _ x.id y.id a.id b.id in
+    let since : x.since ≡ y.since = one_release (codes "since") ms x.since y.since a.since b.since in
+    let ty : x.ty ≡ y.ty = one_type x.ty y.ty (some_injective _ (type_word x.ty) (type_word y.ty) a.ty b.ty) in
+    let required : x.required ≡ y.required = sym a.required ∙ b.required in
+    let gate : x.gate ≡ y.gate = sym a.gate ∙ b.gate in
+    λ i. record { group = group i; resource = resource i; id = id i; since = since i; ty = ty i; required = required i; gate = gate i }
+
+one_spell : (ms : Members) (x y : Spell) → IsSpellEntry ms x → IsSpellEntry ms y → x ≡ y
+one_spell ms x y a b =
+    let group : x.group ≡ y.group = some_injective _ x.group y.group a.group b.group in
+    let resource : x.resource ≡ y.resource = some_injective _ x.resource y.resource a.resource b.resource in
+    let version : x.version ≡ y.version = some_injective _ x.version y.version a.version b.version in
+    let field : x.field ≡ y.field = some_injective _ x.field y.field a.field b.field in
+    let since : x.since ≡ y.since = one_release (codes "since") ms x.since y.since a.since b.since in
+    let path : x.path ≡ y.path = some_injective _ x.path y.path a.path b.path in
+    let form : x.form ≡ y.form = one_held_form _ x.form y.form a.form b.form in
+    let default : x.default ≡ y.default = sym a.default ∙ b.default in
+    λ i. record { group = group i; resource = resource i; version = version i; field = field i; since = since i; path = path i; form = form i; default = default i }
+
 one_list : {X : Type 0} (P : Members → X → Type 0) → ((t : Members) (x y : X) → P t x → P t y → x ≡ y) → (ts : List Members) (xs ys : List X) → AreEntries P ts xs → AreEntries P ts ys → xs ≡ ys
 one_list P one [] [] [] a b = refl
 one_list P one [] [] (y ∷ ys) a b = absurd b
@@ -133,7 +200,9 @@ one_meaning ms h k a b =
     let last : h.last ≡ k.last = one_optional (codes "last") ms h.last k.last a.last b.last in
     let gates : h.gates ≡ k.gates = one_list IsGateEntry one_gate _ h.gates k.gates a.gates b.gates in
     let apis : h.apis ≡ k.apis = one_list IsApiEntry one_api _ h.apis k.apis a.apis b.apis in
-    λ i. record { first = first i; last = last i; gates = gates i; apis = apis i }
+    let fields : h.fields ≡ k.fields = one_list IsFieldEntry one_field _ h.fields k.fields a.fields b.fields in
+    let spells : h.spells ≡ k.spells = one_list IsSpellEntry one_spell _ h.spells k.spells a.spells b.spells in
+    λ i. record { first = first i; last = last i; gates = gates i; apis = apis i; fields = fields i; spells = spells i }
 
 one_tree : (text : List ℕ) (ms ns : Members) → ReadsAs text ms → ReadsAs text ns → ms ≡ ns
 one_tree text ms ns a b = some_injective _ ms ns a.parsed b.parsed

@@ -121,7 +121,10 @@ found_tables (Some d) h = array_tables (as_array d) h
 pub are_tables : (ms : Members) → AllByRecursion Passes (table_tests Array.Top 0 ms) → AllByRecursion (λ a. AreTables (items_at (array_name a) ms)) entry_arrays
 are_tables ms h = (
   found_tables (get_member (array_name Array.Gate) ms) h.1.1.0,
-  (found_tables (get_member (array_name Array.Api) ms) h.1.1.1.0, tt),
+  (
+    found_tables (get_member (array_name Array.Api) ms) h.1.1.1.0,
+    (found_tables (get_member (array_name Array.Field) ms) h.1.1.1.1.0, (found_tables (get_member (array_name Array.Spell) ms) h.1.1.1.1.1.0, tt)),
+  ),
 )
 
 -- rows whose tests pass are met

@@ -6,9 +6,13 @@ use Rattle.minor_version.specs.Release.{release_text}
 use Rattle.gate_spec.specs.Stages.{stage_word}
 use Rattle.gate_spec.specs.declared.entry.Stage.{Stage}
 use Rattle.lifecycle.specs.Version.{IsVersion}
-use Rattle.schemas.specs.Shapes.{IsGateName, IsGroup, IsResource, IsKind}
+use Rattle.fields.specs.Table.{IsPath}
+use Rattle.fields.specs.declared.field.Form.{Form}
+use Rattle.fields.specs.declared.value.FieldType.{FieldType}
+use Rattle.schemas.specs.Shapes.{IsGateName, IsGroup, IsResource, IsKind, IsFieldId}
+use Rattle.history_reader.specs.Words.{type_word, form_word, path_in, scalar_in}
 use Rattle.history_reader.specs.declared.demand.Shape.{Shape}
-use Rattle.history_reader.specs.declared.demand.Shape.TheVariants.{Release, GateName, StageWord, Flag, OnlyTrue, GroupName, VersionWord, ResourceName, KindName, EventWord, Tables}
+use Rattle.history_reader.specs.declared.demand.Shape.TheVariants.{Release, GateName, StageWord, Flag, OnlyTrue, GroupName, VersionWord, ResourceName, KindName, EventWord, FieldId, TypeWord, PathText, FormWord, Scalar, Tables}
 use Rattle.history_reader.specs.declared.demand.Demand.{Demand}
 use Rattle.history_reader.specs.declared.demand.Demand.TheVariants.{Required, Optional, Absent}
 
@@ -23,6 +27,17 @@ IsStage text = (s : Stage) × (text ≡ stage_word s)
 -- the word of what happens to an API version
 abbrev pub IsEvent : List ℕ → Type 0
 IsEvent text = (text ≡ codes "introduced") ⊎ (text ≡ codes "deprecated") ⊎ (text ≡ codes "removed") ⊎ (text ≡ codes "forgotten")
+
+-- the word of a field's type, or of a form
+abbrev pub IsTypeWord : List ℕ → Type 0
+IsTypeWord text = (ty : FieldType) × (text ≡ type_word ty)
+
+abbrev pub IsFormWord : List ℕ → Type 0
+IsFormWord text = (form : Form) × (text ≡ form_word form)
+
+-- the text of a path
+abbrev pub IsPathText : List ℕ → Type 0
+IsPathText text = IsPath (path_in text)
 
 -- each item is a table
 abbrev pub AreTables : Items → Type 0
@@ -39,6 +54,11 @@ TextHasShape VersionWord = IsVersion
 TextHasShape ResourceName = IsResource
 TextHasShape KindName = IsKind
 TextHasShape EventWord = IsEvent
+TextHasShape FieldId = IsFieldId
+TextHasShape TypeWord = IsTypeWord
+TextHasShape PathText = IsPathText
+TextHasShape FormWord = IsFormWord
+TextHasShape Scalar = λ _. ⊥
 TextHasShape Flag = λ _. ⊥
 TextHasShape OnlyTrue = λ _. ⊥
 TextHasShape Tables = λ _. ⊥
@@ -47,6 +67,7 @@ TextHasShape Tables = λ _. ⊥
 abbrev pub HasShape : Shape → Data → Type 0
 HasShape Flag d = IsSome (as_bool d)
 HasShape OnlyTrue d = as_bool d ≡ Some true
+HasShape Scalar d = IsSome (scalar_in d)
 HasShape Tables d = IsSomeAnd (as_array d) AreTables
 HasShape shape d = IsSomeAnd (as_str d) (TextHasShape shape)
 

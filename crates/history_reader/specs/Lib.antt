@@ -1,5 +1,6 @@
 pub mod Names
 pub mod Tree
+pub mod Words
 pub mod Demands
 pub mod Rows
 pub mod Tests

@@ -1,10 +1,14 @@
 -- What a history document means.
-use Rattle.std.specs.Prelude.{ℕ, ◌≡◌, ◌<◌, ◌≤◌, true, false, List, [], ◌∷◌, length, Some, None, MatchOption, unwrap_or, codes}
+use Rattle.std.specs.Prelude.{ℕ, ◌≡◌, ◌<◌, ◌≤◌, true, false, List, [], ◌∷◌, length, Some, None, MatchOption, unwrap_or, option_and_then, option_map, codes}
 use Rattle.std.specs.declared.option.Option.{Option}
 use Rattle.std.specs.List.{AllByRecursion}
 use Rattle.std.specs.Str.{IsUtf8}
-use Rattle.toml.specs.Data.{Members}
+use Rattle.toml.specs.Data.{Members, get_member}
 use Rattle.toml.specs.Parse.{parse_document}
+use Rattle.fields.specs.declared.field.Field.{Field}
+use Rattle.fields.specs.declared.field.Form.{Form}
+use Rattle.fields.specs.declared.field.Form.TheVariants.{Same}
+use Rattle.fields.specs.declared.field.Spell.{Spell}
 use Rattle.gate_spec.specs.Stages.{stage_word}
 use Rattle.gate_spec.specs.declared.entry.GateChange.{GateChange}
 use Rattle.gate_spec.specs.declared.entry.GateChange.TheVariants.{Spec, Gone}
@@ -16,6 +20,7 @@ use Rattle.schemas.specs.Dated.{Dated}
 use Rattle.history_reader.specs.declared.read.HistoryFault.{HistoryFault}
 use Rattle.history_reader.specs.declared.read.HistoryFault.TheVariants.{Memory, TooLong, NotToml, BadEntry}
 use Rattle.history_reader.specs.Tree.{IsReleaseAt, text_at, flag_at, tables_at}
+use Rattle.history_reader.specs.Words.{type_word, form_word, path_in, scalar_in}
 use Rattle.history_reader.specs.Tests.{Passes, IsFirstFault, document_tests}
 
 -- a text longer than this many bytes is no history document
@@ -64,6 +69,31 @@ pub record IsApiEntry (ms : Members) (x : ApiEntry) : Type 0 where
   pub since : IsReleaseAt (codes "since") ms x.since
   pub change : IsApiChange ms x.change
 
+-- the table is this field; `required` that is missing is false
+pub record IsFieldEntry (ms : Members) (x : Field) : Type 0 where
+  pub group : text_at (codes "group") ms ≡ Some x.group
+  pub resource : text_at (codes "resource") ms ≡ Some x.resource
+  pub id : text_at (codes "id") ms ≡ Some x.id
+  pub since : IsReleaseAt (codes "since") ms x.since
+  pub ty : text_at (codes "type") ms ≡ Some (type_word x.ty)
+  pub required : unwrap_or (flag_at (codes "required") ms) false ≡ x.required
+  pub gate : text_at (codes "gate") ms ≡ x.gate
+
+-- the member holds the form's word; where it is missing the form is `Same`
+abbrev pub HoldsForm : List ℕ → Members → Form → Type 0
+HoldsForm name ms form = MatchOption (text_at name ms) (form ≡ Same) (λ word. word ≡ form_word form)
+
+-- the table is this spelling
+pub record IsSpellEntry (ms : Members) (x : Spell) : Type 0 where
+  pub group : text_at (codes "group") ms ≡ Some x.group
+  pub resource : text_at (codes "resource") ms ≡ Some x.resource
+  pub version : text_at (codes "version") ms ≡ Some x.version
+  pub field : text_at (codes "field") ms ≡ Some x.field
+  pub since : IsReleaseAt (codes "since") ms x.since
+  pub path : option_map path_in (text_at (codes "path") ms) ≡ Some x.path
+  pub form : HoldsForm (codes "form") ms x.form
+  pub default : option_and_then scalar_in (get_member (codes "default") ms) ≡ x.default
+
 -- the tables are these entries, one for one, in order
 abbrev pub AreEntries : {X : Type 0} → (Members → X → Type 0) → List Members → List X → Type 0
 AreEntries IsEntry [] [] = Unit {0}
@@ -76,6 +106,8 @@ pub record IsHistory (ms : Members) (h : Dated) : Type 0 where
   pub last : HoldsRelease (codes "last") ms h.last
   pub gates : AreEntries IsGateEntry (tables_at (codes "gate") ms) h.gates
   pub apis : AreEntries IsApiEntry (tables_at (codes "api") ms) h.apis
+  pub fields : AreEntries IsFieldEntry (tables_at (codes "field") ms) h.fields
+  pub spells : AreEntries IsSpellEntry (tables_at (codes "spell") ms) h.spells
 
 -- the bytes are a text that TOML reads as this tree
 pub record ReadsAs (text : List ℕ) (ms : Members) : Type 0 where

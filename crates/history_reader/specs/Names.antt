@@ -1,7 +1,7 @@
 -- The names of the members of a history document.
 use Rattle.std.specs.Prelude.{ℕ, List, codes}
 use Rattle.history_reader.specs.declared.member.Member.{Member}
-use Rattle.history_reader.specs.declared.member.Member.TheVariants.{First, Last, Gate, Api, Field, Spell, Name, Since, Removed, Stage, Default, Locked, Group, Version, Resource, Event, Kind, Singular, Namespaced, Enabled, Removal, Replacement}
+use Rattle.history_reader.specs.declared.member.Member.TheVariants.{First, Last, Gate, Api, Field, Spell, Name, Since, Removed, Stage, Default, Locked, Group, Version, Resource, Event, Kind, Singular, Namespaced, Enabled, Removal, Replacement, Id, FieldType, Required, Path, Form}
 
 abbrev pub member_name : Member → List ℕ
 member_name First = codes "first"
@@ -26,3 +26,8 @@ member_name Namespaced = codes "namespaced"
 member_name Enabled = codes "enabled"
 member_name Removal = codes "removal"
 member_name Replacement = codes "replacement"
+member_name Id = codes "id"
+member_name FieldType = codes "type"
+member_name Required = codes "required"
+member_name Path = codes "path"
+member_name Form = codes "form"

@@ -9,7 +9,7 @@ use Rattle.schemas.specs.declared.array.Array.{Array}
 use Rattle.history_reader.specs.declared.member.Member.{Member}
 use Rattle.history_reader.specs.declared.demand.Shape.{Shape}
 use Rattle.history_reader.specs.declared.demand.Demand.{Demand}
-use Rattle.history_reader.specs.declared.demand.Demand.TheVariants.{Required, Optional, Absent}
+use Rattle.history_reader.specs.declared.demand.Demand.TheVariants.{Required, Optional}
 use Rattle.history_reader.specs.Tree.{text_at}
 
 -- a member, and what must stand there
@@ -20,7 +20,7 @@ Row = Member × Demand
 abbrev pub top_rows : List Row
 top_rows = (Member.First, Optional Shape.Release) ∷ (Member.Last, Optional Shape.Release)
     ∷ (Member.Gate, Optional Shape.Tables) ∷ (Member.Api, Optional Shape.Tables)
-    ∷ (Member.Field, Absent) ∷ (Member.Spell, Absent) ∷ []
+    ∷ (Member.Field, Optional Shape.Tables) ∷ (Member.Spell, Optional Shape.Tables) ∷ []
 
 -- of a gate that changes, and of one that goes
 abbrev pub spec_rows : List Row
@@ -55,14 +55,25 @@ api_rows ms = (Member.Group, Required Shape.GroupName) ∷ (Member.Version, Requ
     ∷ (Member.Resource, Required Shape.ResourceName) ∷ (Member.Since, Required Shape.Release)
     ∷ (Member.Event, Required Shape.EventWord) ∷ event_rows (text_at (codes "event") ms)
 
+-- of an entry of `field`, and of one of `spell`
+abbrev pub field_rows : List Row
+field_rows = (Member.Group, Required Shape.GroupName) ∷ (Member.Resource, Required Shape.ResourceName)
+    ∷ (Member.Id, Required Shape.FieldId) ∷ (Member.Since, Required Shape.Release) ∷ (Member.FieldType, Required Shape.TypeWord)
+    ∷ (Member.Required, Optional Shape.Flag) ∷ (Member.Gate, Optional Shape.GateName) ∷ []
+
+abbrev pub spell_rows : List Row
+spell_rows = (Member.Group, Required Shape.GroupName) ∷ (Member.Resource, Required Shape.ResourceName)
+    ∷ (Member.Version, Required Shape.VersionWord) ∷ (Member.Field, Required Shape.FieldId) ∷ (Member.Since, Required Shape.Release)
+    ∷ (Member.Path, Required Shape.PathText) ∷ (Member.Form, Optional Shape.FormWord) ∷ (Member.Default, Optional Shape.Scalar) ∷ []
+
 -- the rows of a table of the array, or of the document itself
 abbrev pub rows_of : Array → Members → List Row
 rows_of Array.Top ms = top_rows
 rows_of Array.Gate ms = gate_rows ms
 rows_of Array.Api ms = api_rows ms
-rows_of Array.Field ms = []
-rows_of Array.Spell ms = []
+rows_of Array.Field ms = field_rows
+rows_of Array.Spell ms = spell_rows
 
 -- the arrays whose entries are read, in the order of their tests
 abbrev pub entry_arrays : List Array
-entry_arrays = Array.Gate ∷ Array.Api ∷ []
+entry_arrays = Array.Gate ∷ Array.Api ∷ Array.Field ∷ Array.Spell ∷ []

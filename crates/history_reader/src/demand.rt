@@ -5,10 +5,11 @@ ghost use Rattle.lifecycle.specs.Version.{IsVersion};
 ghost use Rattle.toml.specs.Data.{as_array, as_str, as_table};
 ghost use Rattle.history_reader.specs.Demands.{IsRelease, IsStage, IsEvent, AreTables, TextHasShape, HasShape, Meets};
 
+use crate::words::{form_named, is_path_text, is_scalar, type_named};
 use gate_spec::stage_named;
 use lifecycle::version_word;
 use minor_version::parse_plain;
-use schemas::{is_gate_name, is_group, is_kind, is_resource};
+use schemas::{is_field_id, is_gate_name, is_group, is_kind, is_resource};
 use toml::Value;
 use toml::value::Array;
 
@@ -26,6 +27,12 @@ pub enum Shape {
     ResourceName,
     KindName,
     EventWord,
+    FieldId,
+    TypeWord,
+    PathText,
+    FormWord,
+    /// A boolean, a whole number or a text.
+    Scalar,
     /// An array of tables, also of none.
     Tables,
 }
@@ -88,7 +95,11 @@ fn text_has_shape(shape: Shape, text: &str) -> bool
         Shape::ResourceName => is_resource(bytes),
         Shape::KindName => is_kind(bytes),
         Shape::EventWord => is_event(text),
-        Shape::Flag | Shape::OnlyTrue | Shape::Tables => false,
+        Shape::FieldId => is_field_id(bytes),
+        Shape::TypeWord => type_named(text).is_some(),
+        Shape::PathText => is_path_text(text),
+        Shape::FormWord => form_named(text).is_some(),
+        Shape::Flag | Shape::OnlyTrue | Shape::Scalar | Shape::Tables => false,
     }
 }
 
@@ -99,6 +110,7 @@ pub fn has_shape(shape: Shape, value: &Value) -> bool
     match shape {
         Shape::Flag => value.is_bool(),
         Shape::OnlyTrue => value.as_bool() == Some(true),
+        Shape::Scalar => is_scalar(value),
         Shape::Tables => match value.as_array() {
             Some(array) => are_tables(array),
             None => false,

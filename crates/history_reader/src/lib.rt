@@ -8,6 +8,7 @@ mod apis;
 mod demand;
 mod entries;
 mod fault;
+mod fields_of;
 mod gates;
 mod laws;
 mod member;
@@ -16,6 +17,7 @@ mod rows;
 #[cfg(test)]
 mod tests;
 mod tree;
+mod words;
 
 pub use laws::reading_has_one_answer;
 pub use read::{HistoryFault, LONGEST_DOCUMENT, read_history};

@@ -23,6 +23,11 @@ pub enum Member {
     Enabled,
     Removal,
     Replacement,
+    Id,
+    FieldType,
+    Required,
+    Path,
+    Form,
 }
 
 impl Member {
@@ -55,6 +60,11 @@ impl Member {
             Member::Enabled => "enabled",
             Member::Removal => "removal",
             Member::Replacement => "replacement",
+            Member::Id => "id",
+            Member::FieldType => "type",
+            Member::Required => "required",
+            Member::Path => "path",
+            Member::Form => "form",
         }
     }
 }

@@ -14,6 +14,7 @@ use crate::fault::document_fault;
 use crate::member::Member;
 use crate::tree::{items_of_array, text_member};
 use basis::Memory;
+use fields::{Field, Spell};
 use gate_spec::GateEntry;
 use lifecycle::ApiEntry;
 use minor_version::{Minor, Text, parse_plain};
@@ -84,11 +85,15 @@ fn history_of(alloc: Global, table: &Table) -> Result<History, Memory>
     let last = optional_release(table, Member::Last);
     let gates = entries_of::<GateEntry>(alloc, items_of_array(table, Array::Gate))?;
     let apis = entries_of::<ApiEntry>(alloc, items_of_array(table, Array::Api))?;
+    let fields = entries_of::<Field>(alloc, items_of_array(table, Array::Field))?;
+    let spells = entries_of::<Spell>(alloc, items_of_array(table, Array::Spell))?;
     Ok(History {
         first,
         last,
         gates,
         apis,
+        fields,
+        spells,
     })
 }
 

@@ -1,9 +1,9 @@
 //! The member table: the rows of each table of a history document, in the order of their tests.
 ghost use Rattle.std.specs.Prelude.{◌≡◌};
 ghost use Rattle.toml.specs.View.{table_view};
-ghost use Rattle.history_reader.specs.Rows.{top_rows, gate_rows, api_rows, rows_of};
+ghost use Rattle.history_reader.specs.Rows.{top_rows, gate_rows, api_rows, field_rows, spell_rows, rows_of};
 
-use crate::demand::Demand::{self, Absent, Optional, Required};
+use crate::demand::Demand::{self, Optional, Required};
 use crate::demand::Shape;
 use crate::member::Member;
 use crate::tree::{text_member, value_of};
@@ -14,7 +14,7 @@ use toml::Table;
 pub type Row = (Member, Demand);
 
 /// The arrays whose entries are read, in the order of their tests.
-pub const ENTRY_ARRAYS: [Array; 2] = [Array::Gate, Array::Api];
+pub const ENTRY_ARRAYS: [Array; 4] = [Array::Gate, Array::Api, Array::Field, Array::Spell];
 
 fn document_rows() -> &'static [Row]
     ensures { result.now ≡ top_rows }
@@ -24,8 +24,8 @@ fn document_rows() -> &'static [Row]
         (Member::Last, Optional(Shape::Release)),
         (Member::Gate, Optional(Shape::Tables)),
         (Member::Api, Optional(Shape::Tables)),
-        (Member::Field, Absent),
-        (Member::Spell, Absent),
+        (Member::Field, Optional(Shape::Tables)),
+        (Member::Spell, Optional(Shape::Tables)),
     ]
 }
 
@@ -82,6 +82,35 @@ fn rows_of_api(table: &Table) -> &'static [Row]
     }
 }
 
+fn rows_of_field() -> &'static [Row]
+    ensures { result.now ≡ field_rows }
+{
+    &[
+        (Member::Group, Required(Shape::GroupName)),
+        (Member::Resource, Required(Shape::ResourceName)),
+        (Member::Id, Required(Shape::FieldId)),
+        (Member::Since, Required(Shape::Release)),
+        (Member::FieldType, Required(Shape::TypeWord)),
+        (Member::Required, Optional(Shape::Flag)),
+        (Member::Gate, Optional(Shape::GateName)),
+    ]
+}
+
+fn rows_of_spell() -> &'static [Row]
+    ensures { result.now ≡ spell_rows }
+{
+    &[
+        (Member::Group, Required(Shape::GroupName)),
+        (Member::Resource, Required(Shape::ResourceName)),
+        (Member::Version, Required(Shape::VersionWord)),
+        (Member::Field, Required(Shape::FieldId)),
+        (Member::Since, Required(Shape::Release)),
+        (Member::Path, Required(Shape::PathText)),
+        (Member::Form, Optional(Shape::FormWord)),
+        (Member::Default, Optional(Shape::Scalar)),
+    ]
+}
+
 /// The rows of a table of the array, or of the document itself.
 pub fn rows_of_table(array: Array, table: &Table) -> &'static [Row]
     ensures { result.now ≡ rows_of array (table_view table.now) }
@@ -90,6 +119,7 @@ pub fn rows_of_table(array: Array, table: &Table) -> &'static [Row]
         Array::Top => document_rows(),
         Array::Gate => rows_of_gate(table),
         Array::Api => rows_of_api(table),
-        Array::Field | Array::Spell => &[],
+        Array::Field => rows_of_field(),
+        Array::Spell => rows_of_spell(),
     }
 }

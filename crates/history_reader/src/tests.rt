@@ -1,4 +1,5 @@
 use crate::read_history;
+use fields::{FieldType, FieldValue, Form};
 use gate_spec::{GateChange, Stage};
 use lifecycle::ApiChange;
 use std::alloc::Global;
@@ -121,10 +122,8 @@ fn names_the_first_fault(rt: HostRuntime) -> Result<(), Fail> {
         ("gate = [{}, 1]", "entry top 0 member gate"),
         ("gate = [[]]", "entry top 0 member gate"),
         ("[api]\n[[field]]", "entry top 0 member api"),
-        (
-            "spell = []\nfield = []\nAbc = 1",
-            "entry top 0 member field",
-        ),
+        ("spell = 1\nfield = 1\nAbc = 1", "entry top 0 member field"),
+        ("spell = []\nfield = []", "read"),
         (
             "spell = 1\nAbc = 1\ngate = [{}]",
             "entry top 0 member spell",
@@ -298,6 +297,109 @@ fn names_the_first_fault_of_an_api(rt: HostRuntime) -> Result<(), Fail> {
         let members = members.replace(rt.alloc(), "LONG", long)?;
         let members = members.as_str().replace(rt.alloc(), "HEAD", head)?;
         let text = format!(in rt.alloc(); "api = [{{{members}}}]")?;
+        let got = answer(rt.alloc(), text.as_bytes())?;
+        assert_eq!(rt; got.as_str(), want, "at {members}");
+    }
+    Ok(())
+}
+
+const FIELDS: &str = r#"
+field = [
+ {group="g", resource="widgets", id="size", since="1.28", type="Int", required=true},
+ {group="g", resource="widgets", id="names", since="1.29", type="TextList", gate="Names"},
+]
+spell = [
+ {group="g", resource="widgets", version="v1", field="size", since="1.30", path="spec.dimensions.size", form="Decimal", default=-9223372036854775808},
+ {group="g", resource="widgets", version="v2beta1", field="names", since="1.31", path="names", default=true},
+ {group="g", resource="widgets", version="v2beta1", field="names", since="1.31", path="names", default="grey"},
+]
+"#;
+
+#[test]
+fn reads_fields_and_spellings(rt: HostRuntime) -> Result<(), Fail> {
+    let Ok(history) = read_history(rt.alloc(), FIELDS.as_bytes()) else {
+        return Err(Fail::from("refused"));
+    };
+    let fields = history.fields.items();
+    assert_eq!(rt; fields.len(), 2);
+    assert_eq!(rt; fields[0].id.as_str(), "size");
+    assert_eq!(rt; fields[0].ty, FieldType::Int);
+    assert!(rt; fields[0].required && fields[0].gate.is_none());
+    assert_eq!(rt; fields[1].ty, FieldType::TextList);
+    assert_eq!(rt; fields[1].since.number(), 29);
+    assert!(rt; !fields[1].required);
+    assert!(rt; matches!(&fields[1].gate, Some(gate) if gate.as_str() == "Names"));
+    let spells = history.spells.items();
+    assert_eq!(rt; spells.len(), 3);
+    assert_eq!(rt; spells[0].form, Form::Decimal);
+    assert_eq!(rt; spells[0].path.items().len(), 3);
+    assert_eq!(rt; spells[0].path.items()[1].as_str(), "dimensions");
+    assert!(rt; matches!(&spells[0].default, Some(FieldValue::Int(i64::MIN))));
+    assert_eq!(rt; spells[1].form, Form::Same);
+    assert_eq!(rt; spells[1].path.items().len(), 1);
+    assert!(rt; matches!(&spells[1].default, Some(FieldValue::Bool(true))));
+    assert!(rt;
+        matches!(&spells[2].default, Some(FieldValue::Text(text)) if text.as_str() == "grey")
+    );
+    Ok(())
+}
+
+#[test]
+fn names_the_first_fault_of_a_field(rt: HostRuntime) -> Result<(), Fail> {
+    let table = [
+        ("resource=\"pods\"", "entry field 1 member group"),
+        ("HEAD, id=\"Size\", type=1", "entry field 1 member id"),
+        ("HEAD, id=\"size\", type=1", "entry field 1 member since"),
+        (
+            "HEAD, id=\"size\", since=\"1.7\", type=\"Number\"",
+            "entry field 1 member type",
+        ),
+        (
+            "HEAD, id=\"size\", since=\"1.7\", type=\"Int\", required=1, gate=\"a\"",
+            "entry field 1 member required",
+        ),
+        (
+            "HEAD, id=\"size\", since=\"1.7\", type=\"Int\", gate=\"AllBeta\"",
+            "entry field 1 member gate",
+        ),
+        (
+            "HEAD, id=\"size\", since=\"1.7\", type=\"Int\", version=\"v1\"",
+            "entry field 1 member version",
+        ),
+        ("HEAD, id=\"sizeOf2\", since=\"1.7\", type=\"Bool\"", "read"),
+    ];
+    let head = "group=\"\", resource=\"pods\"";
+    for (members, want) in table {
+        let members = members.replace(rt.alloc(), "HEAD", head)?;
+        let text = format!(in rt.alloc(); "field = [{{{members}}}]")?;
+        let got = answer(rt.alloc(), text.as_bytes())?;
+        assert_eq!(rt; got.as_str(), want, "at {members}");
+    }
+    Ok(())
+}
+
+#[test]
+fn names_the_first_fault_of_a_spelling(rt: HostRuntime) -> Result<(), Fail> {
+    let table = [
+        ("\"a.b.c.d.e.f.g.h\"", "read"),
+        ("\"a.b.c.d.e.f.g.h.i\"", "entry spell 1 member path"),
+        ("\"a.LONG\"", "read"),
+        ("\"a.LONGb\"", "entry spell 1 member path"),
+        ("\"a..b\"", "entry spell 1 member path"),
+        ("\"\"", "entry spell 1 member path"),
+        ("\"a\", form=\"same\"", "entry spell 1 member form"),
+        ("\"a\", default=1.5", "entry spell 1 member default"),
+        ("\"a\", default=[\"x\"]", "entry spell 1 member default"),
+        ("\"a\", default=9223372036854775807", "read"),
+        ("\"a\", default=9223372036854775808", "not TOML"),
+        ("\"a\", ty=1", "entry spell 1 member ty"),
+    ];
+    let head = "group=\"\", resource=\"pods\", version=\"v1\", field=\"x\", since=\"1.7\", path=";
+    let long = "abcdefghabcdefghabcdefghabcdefgh";
+    for (members, want) in table {
+        let members = members.replace(rt.alloc(), "LONG", long)?;
+        let members = members.as_str();
+        let text = format!(in rt.alloc(); "spell = [{{{head}{members}}}]")?;
         let got = answer(rt.alloc(), text.as_bytes())?;
         assert_eq!(rt; got.as_str(), want, "at {members}");
     }

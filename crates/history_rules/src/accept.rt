@@ -84,11 +84,7 @@ fn first_gate_fault(alloc: Global, gates: &[GateEntry]) -> Result<Option<Broken>
 }
 
 /// The first fault of the versions: the rules HR6 to HR10.
-fn first_api_fault(
-    alloc: Global,
-    last: Minor,
-    apis: &[ApiEntry],
-) -> Result<Option<Broken>, Memory>
+fn first_api_fault(alloc: Global, last: Minor, apis: &[ApiEntry]) -> Result<Option<Broken>, Memory>
     ensures { IfOk result (λ found. (h : Dated) → last_of h ≡ last → h.apis ≡ apis.now → FindsFault h api_checks found) }
 {
     let Ok(previous) = link_versions(alloc, apis) else {

@@ -180,6 +180,8 @@ fn history(gates: GateList, apis: ApiList) -> Result<History, Fail>
         last: Some(release(33)?),
         gates,
         apis,
+        fields: Sequence::new(),
+        spells: Sequence::new(),
     })
 }
 
@@ -393,6 +395,8 @@ fn releases(rt: HostRuntime) -> Result<(), Fail> {
             last: bound(last)?,
             gates: Sequence::new(),
             apis: Sequence::new(),
+            fields: Sequence::new(),
+            spells: Sequence::new(),
         };
         assert_eq!(rt; answer(alloc, h)?, wanted);
     }

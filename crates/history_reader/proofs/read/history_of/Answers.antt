@@ -10,3 +10,11 @@ entries_of-requires-clause-met c =
 pub entries_of-requires-2-clause-met : goal.entries_of-requires-2-clause-met
 entries_of-requires-2-clause-met c =
     rw c.items_of_array-2.ensures (entries_met Array.Api 1 _ ((arrays_passed (table_view c.args.table.now) c.requires).1.0))
+
+pub entries_of-requires-3-clause-met : goal.entries_of-requires-3-clause-met
+entries_of-requires-3-clause-met c =
+    rw c.items_of_array-3.ensures (entries_met Array.Field 1 _ ((arrays_passed (table_view c.args.table.now) c.requires).1.1.0))
+
+pub entries_of-requires-4-clause-met : goal.entries_of-requires-4-clause-met
+entries_of-requires-4-clause-met c =
+    rw c.items_of_array-4.ensures (entries_met Array.Spell 1 _ ((arrays_passed (table_view c.args.table.now) c.requires).1.1.1.0))

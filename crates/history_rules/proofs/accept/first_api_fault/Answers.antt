@@ -1,15 +1,10 @@
-use Rattle.std.proofs.Common.{ℕ, ◌≡◌, List, Option, Some, None, refl, sym, subst, ap, ◌∙◌, inl, inr}
+use Rattle.std.proofs.Common.{ℕ, ◌≡◌, List, refl, sym, subst, inl, inr}
 use Rattle.schemas.specs.Dated.{Dated}
-use Rattle.gate_spec.specs.declared.entry.GateEntry.{GateEntry}
 use Rattle.lifecycle.specs.declared.entry.ApiEntry.{ApiEntry}
-use Rattle.fields.specs.declared.field.Field.{Field}
-use Rattle.fields.specs.declared.field.Spell.{Spell}
-use Rattle.schemas.specs.Places.{Each, Breaks, IsFirst, FindsFirst}
-use Rattle.schemas.specs.GateRules.{RisesInGate, FitsStage, FollowsLockedSpec}
+use Rattle.schemas.specs.Places.{Each, Breaks, IsFirst}
 use Rattle.schemas.specs.ApiRules.{StandsInOrder, NamesItsKind, DeprecatesFairly, KeepsPlan, ForgetsLate}
-use Rattle.schemas.specs.Rules.{IsGateBy, IsApiBy, IsFieldBy, IsSpellBy, first_of, last_of, date_checks, gate_checks, api_checks, field_checks, checks, FindsFault, release_check}
+use Rattle.schemas.specs.Rules.{last_of, api_checks, FindsFault}
 use Rattle.schemas.proofs.PlaceLemmas.{unbroken}
-use Rattle.history_rules.proofs.FaultLemmas.{fault_in, fault_after, unbroken_both, late_of}
 use Rattle.history_rules.proofs.accept.first_api_fault.Goals as goal
 
 -- what is known of the entries that were lent is known of those of the history

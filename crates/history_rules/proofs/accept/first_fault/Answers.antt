@@ -1,15 +1,6 @@
-use Rattle.std.proofs.Common.{ℕ, ◌≡◌, ◌++◌, List, Option, Some, None, refl, sym, subst, ap, ◌∙◌, inl, inr}
+use Rattle.std.proofs.Common.{ℕ, ◌≡◌, ◌++◌, Option, Some, None, sym, subst, ap, ◌∙◌, inr}
 use Rattle.schemas.specs.Dated.{Dated}
-use Rattle.gate_spec.specs.declared.entry.GateEntry.{GateEntry}
-use Rattle.lifecycle.specs.declared.entry.ApiEntry.{ApiEntry}
-use Rattle.fields.specs.declared.field.Field.{Field}
-use Rattle.fields.specs.declared.field.Spell.{Spell}
-use Rattle.schemas.specs.Places.{Each, Breaks, IsFirst, FindsFirst}
-use Rattle.schemas.specs.GateRules.{RisesInGate, FitsStage, FollowsLockedSpec}
-use Rattle.schemas.specs.ApiRules.{StandsInOrder, NamesItsKind, DeprecatesFairly, KeepsPlan, ForgetsLate}
-use Rattle.schemas.specs.Rules.{IsGateBy, IsApiBy, IsFieldBy, IsSpellBy, first_of, last_of, date_checks, gate_checks, api_checks, field_checks, checks, FindsFault, release_check}
-use Rattle.schemas.proofs.PlaceLemmas.{unbroken}
-use Rattle.std.specs.Prelude.{IfOk}
+use Rattle.schemas.specs.Rules.{date_checks, gate_checks, api_checks, field_checks, checks, FindsFault, release_check}
 use Rattle.schemas.specs.declared.broken.Broken.{Broken}
 use Rattle.history_rules.proofs.FaultLemmas.{fault_in, fault_after, unbroken_both, if_ok}
 use Rattle.history_rules.proofs.accept.first_fault.Goals as goal
@@ -18,8 +9,11 @@ pub returns-in-Ok-Some : goal.returns-in-Ok-Some
 returns-in-Ok-Some c =
     let gates : c.args.h.now.gates ≡ c.items.result.now = sym (c.items.ensures ∙ ap (λ (d : Dated). d.gates) c.h.view_is) in
     let found : FindsFault c.args.h.now gate_checks (Some c.in-Ok-Some.fault) = subst (FindsFault c.args.h.now gate_checks) c.in-Ok-Some.field-0-is (c.in-Ok-Some.ensures c.args.h.now gates) in
-    inr ((λ n top. top.1 c.in-Some.ensures.some.0), fault_after c.args.h.now date_checks (gate_checks ++ api_checks ++ field_checks) _ _ _ c.in_default-first_late_entry.ensures
-    (fault_in c.args.h.now gate_checks (api_checks ++ field_checks) _ _ _ found))
+    inr (
+      (λ n top. top.1 c.in-Some.ensures.some.0),
+      fault_after c.args.h.now date_checks (gate_checks ++ api_checks ++ field_checks) _ _ _ c.in_default-first_late_entry.ensures
+          (fault_in c.args.h.now gate_checks (api_checks ++ field_checks) _ _ _ found),
+    )
 
 pub returns-in-Ok-Some-first_api_fault : goal.returns-in-Ok-Some-first_api_fault
 returns-in-Ok-Some-first_api_fault c =
@@ -27,14 +21,20 @@ returns-in-Ok-Some-first_api_fault c =
     let apis : c.args.h.now.apis ≡ c.items-2.result.now = sym (c.items-2.ensures ∙ ap (λ (d : Dated). d.apis) c.h.view_is) in
     let none : FindsFault c.args.h.now gate_checks None = subst (FindsFault c.args.h.now gate_checks) c.in-Ok-None.field-0-is (c.in-Ok-None.ensures c.args.h.now gates) in
     let found : FindsFault c.args.h.now api_checks (Some c.in-Ok-Some-first_api_fault.fault) = subst (FindsFault c.args.h.now api_checks) c.in-Ok-Some-first_api_fault.field-0-is (c.in-Ok-Some-first_api_fault.ensures c.args.h.now c.in-Some.ensures.some.2 apis) in
-    inr ((λ n top. top.1 c.in-Some.ensures.some.0), fault_after c.args.h.now date_checks (gate_checks ++ api_checks ++ field_checks) _ _ _ c.in_default-first_late_entry.ensures
-    (fault_after c.args.h.now gate_checks (api_checks ++ field_checks) _ _ _ none (fault_in c.args.h.now api_checks field_checks _ _ _ found)))
+    inr (
+      (λ n top. top.1 c.in-Some.ensures.some.0),
+      fault_after c.args.h.now date_checks (gate_checks ++ api_checks ++ field_checks) _ _ _ c.in_default-first_late_entry.ensures
+          (fault_after c.args.h.now gate_checks (api_checks ++ field_checks) _ _ _ none (fault_in c.args.h.now api_checks field_checks _ _ _ found)),
+    )
 
 -- what is found after tests that find none is found by all
 found_after : (h : Dated) (found : Option Broken) → ((k : ℕ) → ¬ release_check.IsBrokenAt h k) → FindsFault h date_checks None → FindsFault h gate_checks None → FindsFault h api_checks None → FindsFault h field_checks found → FindsFault h checks found
 found_after h None top dates gates apis fields = (top, unbroken_both h date_checks (gate_checks ++ api_checks ++ field_checks) dates (unbroken_both h gate_checks (api_checks ++ field_checks) gates (unbroken_both h api_checks field_checks apis fields)))
-found_after h (Some b) top dates gates apis fields = inr (top, fault_after h date_checks (gate_checks ++ api_checks ++ field_checks) b.rule b.array b.index dates
-    (fault_after h gate_checks (api_checks ++ field_checks) b.rule b.array b.index gates (fault_after h api_checks field_checks b.rule b.array b.index apis fields)))
+found_after h (Some b) top dates gates apis fields = inr (
+  top,
+  fault_after h date_checks (gate_checks ++ api_checks ++ field_checks) b.rule b.array b.index dates
+      (fault_after h gate_checks (api_checks ++ field_checks) b.rule b.array b.index gates (fault_after h api_checks field_checks b.rule b.array b.index apis fields)),
+)
 
 pub returns : goal.returns
 returns c =

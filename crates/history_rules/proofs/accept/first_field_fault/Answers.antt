@@ -1,17 +1,12 @@
-use Rattle.std.proofs.Common.{ℕ, ◌≡◌, List, Option, Some, None, refl, sym, subst, ap, ◌∙◌, inl, inr}
+use Rattle.std.proofs.Common.{ℕ, ◌≡◌, List, sym, subst, ap, ◌∙◌}
 use Rattle.schemas.specs.Dated.{Dated}
 use Rattle.gate_spec.specs.declared.entry.GateEntry.{GateEntry}
 use Rattle.lifecycle.specs.declared.entry.ApiEntry.{ApiEntry}
 use Rattle.fields.specs.declared.field.Field.{Field}
 use Rattle.fields.specs.declared.field.Spell.{Spell}
-use Rattle.schemas.specs.Places.{Each, Breaks, IsFirst, FindsFirst}
-use Rattle.schemas.specs.GateRules.{RisesInGate, FitsStage, FollowsLockedSpec}
-use Rattle.schemas.specs.ApiRules.{StandsInOrder, NamesItsKind, DeprecatesFairly, KeepsPlan, ForgetsLate}
-use Rattle.schemas.specs.Rules.{IsGateBy, IsApiBy, IsFieldBy, IsSpellBy, first_of, last_of, date_checks, gate_checks, api_checks, field_checks, checks, FindsFault, release_check}
-use Rattle.schemas.proofs.PlaceLemmas.{unbroken}
+use Rattle.schemas.specs.Rules.{field_checks, FindsFault}
 use Rattle.std.specs.Prelude.{IfOk}
 use Rattle.field_rules.specs.Lists.{lists}
-use Rattle.history_rules.proofs.FaultLemmas.{fault_in, fault_after, unbroken_both, late_of}
 use Rattle.history_rules.proofs.accept.first_field_fault.Goals as goal
 
 pub returns : goal.returns
