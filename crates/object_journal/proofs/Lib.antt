@@ -1,0 +1,4 @@
+mod Fields
+mod Readings
+mod Appends
+mod Refusals

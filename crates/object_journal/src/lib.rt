@@ -1,0 +1,14 @@
+//! The journal of the records: what a file of it means, byte for byte.
+#![tactic(auto)]
+
+mod entry;
+mod framed;
+mod key;
+mod law;
+#[cfg(test)]
+mod tests;
+
+pub use entry::{Change, Entries, Entry};
+pub use framed::{FrameFault, Framed, frame};
+pub use key::Key;
+pub use law::{bytes_have_one_reading, record_is_read_again};
