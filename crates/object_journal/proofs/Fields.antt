@@ -33,7 +33,7 @@ record Behind (k : Key) (rest : List ℕ) : Type 0 where
   two : behind_text (behind_text (key_fields k ++ rest)) ≡ text_field k.namespace ++ (text_field k.name ++ rest)
   three : behind_text (behind_text (behind_text (key_fields k ++ rest))) ≡ text_field k.name ++ rest
 
-whole_key : (k : Key) (rest : List ℕ) → key_fields k ++ rest ≡ text_field k.group ++ (text_field k.resource ++ (text_field k.namespace ++ (text_field k.name ++ rest)))
+pub whole_key : (k : Key) (rest : List ℕ) → key_fields k ++ rest ≡ text_field k.group ++ (text_field k.resource ++ (text_field k.namespace ++ (text_field k.name ++ rest)))
 whole_key k rest = regroup (text_field k.group) (text_field k.resource) (text_field k.namespace) (text_field k.name) rest
 
 behind_each : (k : Key) (rest : List ℕ) → HasShortTexts k → Behind k rest

@@ -2,3 +2,4 @@ mod Fields
 mod Readings
 mod Appends
 mod Refusals
+mod PartLemmas

@@ -1,3 +1,4 @@
 pub mod Payload
 pub mod Frames
 pub mod Journal
+pub mod Parts

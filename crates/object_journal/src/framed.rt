@@ -11,7 +11,7 @@ use std::error::Error;
 use std::fmt;
 use std::marker::Model;
 
-const LONGEST_PAYLOAD: usize = 1_048_576;
+pub(crate) const LONGEST_PAYLOAD: usize = 1_048_576;
 
 /// Why an entry has no frame.
 #[derive(Clone, Copy, Debug, PartialEq, Eq)]

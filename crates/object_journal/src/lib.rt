@@ -5,6 +5,8 @@ mod entry;
 mod framed;
 mod key;
 mod law;
+mod parting;
+mod parts;
 #[cfg(test)]
 mod tests;
 
