@@ -16,14 +16,14 @@ not_empty [] x ys e = absurd (omega (arith, ap length e))
 not_empty (y ∷ xs) x ys e = absurd (omega (arith, ap length e))
 
 -- an entry of a list with one more is the one more, or one of the list
-last_or_earlier : (es : List Entry) (e : Entry) (before : List Entry) (x : Entry) (behind : List Entry) → es ++ e ∷ [] ≡ before ++ x ∷ behind
-    → ((before ≡ es) × (x ≡ e)) ⊎ ((rest : List Entry) × (es ≡ before ++ x ∷ rest))
+pub last_or_earlier : (es : List Entry) (e : Entry) (before : List Entry) (x : Entry) (behind : List Entry) → es ++ e ∷ [] ≡ before ++ x ∷ behind
+    → ((before ≡ es) × (x ≡ e)) ⊎ ((rest : List Entry) × (es ≡ before ++ x ∷ rest) × (behind ≡ rest ++ e ∷ []))
 last_or_earlier [] e [] x behind h = inl (refl, sym (head_is e x [] behind h))
 last_or_earlier [] e (b ∷ before) x behind h = absurd (not_empty before x behind (tail_is e b [] (before ++ x ∷ behind) h))
-last_or_earlier (y ∷ es) e [] x behind h = inr (es, ap (λ (z : Entry). z ∷ es) (head_is y x (es ++ e ∷ []) behind h))
+last_or_earlier (y ∷ es) e [] x behind h = inr (es, ap (λ (z : Entry). z ∷ es) (head_is y x (es ++ e ∷ []) behind h), sym (tail_is y x (es ++ e ∷ []) behind h))
 last_or_earlier (y ∷ es) e (b ∷ before) x behind h =
     let first = head_is y b (es ++ e ∷ []) (before ++ x ∷ behind) h in
-    ⊎_elim (λ p. inl ((λ i. sym first i ∷ p.0 i), p.1)) (λ r. inr (r.0, λ i. first i ∷ r.1 i)) (last_or_earlier es e before x behind (tail_is y b (es ++ e ∷ []) (before ++ x ∷ behind) h))
+    ⊎_elim (λ p. inl ((λ i. sym first i ∷ p.0 i), p.1)) (λ r. inr (r.0, (λ i. first i ∷ r.1 i), r.2)) (last_or_earlier es e before x behind (tail_is y b (es ++ e ∷ []) (before ++ x ∷ behind) h))
 
 pub lawful_more : (base : ℕ) (es : List Entry) (e : Entry) → AreLawful base es → MayFollow base es e → AreLawful base (es ++ e ∷ [])
 lawful_more base es e lawful may before x behind h =

@@ -3,3 +3,4 @@ mod Readings
 mod Appends
 mod Refusals
 mod PartLemmas
+mod HeldLemmas

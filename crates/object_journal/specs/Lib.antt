@@ -1,4 +1,6 @@
 pub mod Payload
 pub mod Frames
 pub mod Journal
+pub mod KeyOrder
 pub mod Parts
+pub mod Reading

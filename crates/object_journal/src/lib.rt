@@ -3,6 +3,7 @@
 
 mod entry;
 mod framed;
+mod held;
 mod key;
 mod law;
 mod parting;
