@@ -11,7 +11,7 @@ head_is x y xs ys e = ap (λ (l : List Entry). get_or l 0 x) e
 tail_is : (x y : Entry) (xs ys : List Entry) → x ∷ xs ≡ y ∷ ys → xs ≡ ys
 tail_is x y xs ys e = ap (λ (l : List Entry). drop 1 l) e
 
-not_empty : (xs : List Entry) (x : Entry) (ys : List Entry) → [] ≡ xs ++ x ∷ ys → ⊥
+pub not_empty : (xs : List Entry) (x : Entry) (ys : List Entry) → [] ≡ xs ++ x ∷ ys → ⊥
 not_empty [] x ys e = absurd (omega (arith, ap length e))
 not_empty (y ∷ xs) x ys e = absurd (omega (arith, ap length e))
 

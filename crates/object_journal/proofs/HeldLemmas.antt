@@ -23,7 +23,7 @@ use Rattle.object_journal.specs.declared.entry.Change.TheVariants.{Put, Removal}
 use Rattle.basis.specs.declared.memory.Memory.{Memory}
 use Rattle.object_journal.specs.KeyOrder.{by_key}
 use Rattle.object_journal.specs.Journal.{IsPut, Leaves, IsHeld, FewHeld, most_keys}
-use Rattle.object_journal.specs.Reading.{AreHeld, Holds, Releases}
+use Rattle.object_journal.specs.HeldKeys.{AreHeld, Holds, Releases}
 use Rattle.object_journal.proofs.Appends.{last_or_earlier}
 
 -- ---- keys

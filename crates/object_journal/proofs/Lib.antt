@@ -4,3 +4,5 @@ mod Appends
 mod Refusals
 mod PartLemmas
 mod HeldLemmas
+mod RuleLemmas
+mod WholeLemmas

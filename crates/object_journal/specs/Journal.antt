@@ -119,7 +119,11 @@ IsJournal bytes base entries =
 abbrev pub HasNoHeader : List ℕ → Type 0
 HasNoHeader bytes = (base : ℕ) (rest : List ℕ) → base ≤ last_revision → bytes ≢ header_of base ++ rest
 
--- behind lawful records, at this place, an open gate with no whole record and next gate behind it, or with an unlawful one
+-- behind an open gate these bytes have no whole record and next gate, or an unlawful record
+abbrev pub HasNoNext : ℕ → List Entry → List ℕ → Type 0
+HasNoNext base before rest = (e : Entry) (gate : ℕ) (behind : List ℕ) → rest ≡ frame_bytes e ++ gate ∷ behind → ¬ MayFollow base before e
+
+-- behind lawful records, at this place, an open gate that no lawful record follows
 pub record IsBrokenAt (bytes : List ℕ) (place : ℕ) : Type 0 where
   pub base : ℕ
   pub entries : List Entry
@@ -127,7 +131,7 @@ pub record IsBrokenAt (bytes : List ℕ) (place : ℕ) : Type 0 where
   pub parts : bytes ≡ header_of base ++ (records_of entries ++ open_gate ∷ rest)
   pub base_fits : base ≤ last_revision
   pub lawful : AreLawful base entries
-  pub none : (e : Entry) (gate : ℕ) (behind : List ℕ) → rest ≡ frame_bytes e ++ gate ∷ behind → ¬ MayFollow base entries e
+  pub none : HasNoNext base entries rest
   pub place_is : place ≡ length (header_of base ++ records_of entries)
 
 -- the place of the header, or that of the gate before the first unlawful record

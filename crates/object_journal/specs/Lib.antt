@@ -3,4 +3,5 @@ pub mod Frames
 pub mod Journal
 pub mod KeyOrder
 pub mod Parts
-pub mod Reading
+pub mod HeldKeys
+pub mod Readings

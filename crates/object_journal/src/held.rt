@@ -2,7 +2,7 @@
 ghost use Rattle.std.specs.Prelude.{◌↔◌, ◌≤◌, ◌++◌, [], ◌∷◌, ℕ, List, IsTrue, OnOk};
 ghost use Rattle.object_journal.specs.declared.entry.Entry.{Entry};
 ghost use Rattle.object_journal.specs.Journal.{FewHeld};
-ghost use Rattle.object_journal.specs.Reading.{AreHeld, Holds, Releases};
+ghost use Rattle.object_journal.specs.HeldKeys.{AreHeld, Holds, Releases};
 
 use crate::entry::{Change, Entry};
 use crate::key::Key;

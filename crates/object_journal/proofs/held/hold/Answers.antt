@@ -1,6 +1,6 @@
 use Rattle.std.proofs.Common.{subst}
 use Rattle.object_journal.specs.declared.key.Key.{Key}
-use Rattle.object_journal.specs.Reading.{Holds}
+use Rattle.object_journal.specs.HeldKeys.{Holds}
 use Rattle.object_journal.proofs.HeldLemmas.{holds_now}
 use Rattle.object_journal.proofs.held.hold.Goals as goal
 

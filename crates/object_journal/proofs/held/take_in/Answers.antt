@@ -1,6 +1,6 @@
 use Rattle.std.proofs.Common.{List, [], ◌∷◌, ◌++◌}
 use Rattle.object_journal.specs.declared.entry.Entry.{Entry}
-use Rattle.object_journal.specs.Reading.{AreHeld, Holds}
+use Rattle.object_journal.specs.HeldKeys.{AreHeld, Holds}
 use Rattle.object_journal.proofs.HeldLemmas.{put_held, removal_held, on_ok_then, put_in_put, no_put_in_removal}
 use Rattle.object_journal.proofs.held.take_in.Goals as goal
 

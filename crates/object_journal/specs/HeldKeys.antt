@@ -1,4 +1,4 @@
--- What a reader of a journal has when it stands at a gate.
+-- The keys that a reader holds.
 use Rattle.std.specs.Prelude.{◌≡◌, ◌≢◌, ◌↔◌, ◌⊎◌, ℕ, ◌≤◌, ◌<◌, List, ◌++◌, length, drop, IsTrue}
 use Rattle.std.specs.BTreeSet.{BTreeSet, contains}
 use Rattle.object_journal.specs.declared.key.Key.{Key}
@@ -9,13 +9,6 @@ use Rattle.object_journal.specs.Journal.{IsHeld, AreLawful, last_revision, revis
 -- the keys are those that the entries leave held
 abbrev pub AreHeld : BTreeSet Key → List Entry → Type 0
 AreHeld held entries = (k : Key) → IsTrue (contains by_key held k) ↔ IsHeld entries k
-
--- lawful entries were read up to a gate at this place
-pub record IsReadTo (bytes : List ℕ) (base : ℕ) (entries : List Entry) (place : ℕ) : Type 0 where
-  pub parts : bytes ≡ header_of base ++ (records_of entries ++ drop place bytes)
-  pub base_fits : base ≤ last_revision
-  pub lawful : AreLawful base entries
-  pub within : place < length bytes
 
 -- the key is added to the others
 abbrev pub Holds : BTreeSet Key → BTreeSet Key → Key → Type 0
