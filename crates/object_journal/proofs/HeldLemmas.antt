@@ -1,6 +1,6 @@
 -- Which keys entries leave held, one entry after the other.
-use Rattle.std.proofs.Common.{◌≡◌, ◌≢◌, ◌↔◌, ◌⊎◌, inl, inr, ⊎_elim, ℕ, ◌≤◌, Bool, true, false, cond, List, [], ◌∷◌, ◌++◌, length, Contains, All, IsTrue, Some, refl, sym, ap, subst, ◌∙◌, append_assoc, rules, arith}
-use Rattle.std.specs.Prelude.{AllPairs, Result, Ok, Err, OnOk}
+use Rattle.std.proofs.Common.{◌≡◌, ◌≢◌, ◌⊎◌, inl, inr, ⊎_elim, ℕ, ◌≤◌, Bool, true, false, cond, List, [], ◌∷◌, ◌++◌, length, Contains, IsTrue, Some, refl, sym, ap, subst, ◌∙◌, append_assoc, rules, arith}
+use Rattle.std.specs.Prelude.{Result, Ok, Err, OnOk}
 use Rattle.std.specs.Bool.{Decides}
 use Rattle.std.specs.Cmp.{IsTotalOrder}
 use Rattle.std.specs.Cmp.Rules.{comparing}
@@ -9,7 +9,7 @@ use Rattle.std.specs.declared.cmp.Ordering.{Ordering}
 use Rattle.std.specs.declared.cmp.Ordering.TheVariants.{Less, Equal, Greater}
 use Rattle.std.specs.Set.{is_member}
 use Rattle.std.specs.BTreeSet.{BTreeSet, contains, IsOrdered}
-use Rattle.std.proofs.lemmas.Cmp.{eq_by_cmp_equiv, tied_itself}
+use Rattle.std.proofs.lemmas.Cmp.{eq_by_cmp_equiv}
 use Rattle.std.proofs.lemmas.Map.Lookups.{CmpEqualImpliesEq, exact_bytes}
 use Rattle.std.proofs.lemmas.Map.Views.{btree_set_contains_iff, tells_apart, All-set_contains}
 use Rattle.std.proofs.lemmas.Map.Keys.{IsDistinct-from_sorted}
@@ -95,18 +95,18 @@ leaves_last es e put = record { before = es; behind = []; parts = refl; put = pu
 
 leaves_more : (es : List Entry) (e x : Entry) → Leaves es x → e.key ≢ x.key → Leaves (es ++ e ∷ []) x
 leaves_more es e x l apart = record {
-    before = l.before;
-    behind = l.behind ++ e ∷ [];
-    parts = ap (λ (t : List Entry). t ++ e ∷ []) l.parts ∙ append_assoc l.before (x ∷ l.behind) (e ∷ []);
-    put = l.put;
-    last = All-push (λ other. other.key ≢ x.key) l.behind e l.last apart;
-  }
+  before = l.before;
+  behind = l.behind ++ e ∷ [];
+  parts = ap (λ (t : List Entry). t ++ e ∷ []) l.parts ∙ append_assoc l.before (x ∷ l.behind) (e ∷ []);
+  put = l.put;
+  last = All-push (λ other. other.key ≢ x.key) l.behind e l.last apart;
+}
 
 leaves_cases : (es : List Entry) (e x : Entry) → Leaves (es ++ e ∷ []) x → (x ≡ e) ⊎ (Leaves es x × (e.key ≢ x.key))
 leaves_cases es e x l =
     ⊎_elim (λ p. inl p.1) (λ r.
-      let both = All-pop (λ other. other.key ≢ x.key) l.behind r.0 (Some e) r.2 l.last in
-      inr (record { before = l.before; behind = r.0; parts = r.1; put = l.put; last = both.0 }, both.1)) (last_or_earlier es e l.before x l.behind l.parts)
+    let both = All-pop (λ other. other.key ≢ x.key) l.behind r.0 (Some e) r.2 l.last in
+    inr (record { before = l.before; behind = r.0; parts = r.1; put = l.put; last = both.0 }, both.1)) (last_or_earlier es e l.before x l.behind l.parts)
 
 held_cases : (es : List Entry) (e : Entry) (k : Key) → IsHeld (es ++ e ∷ []) k → ((e.key ≡ k) × IsPut e.change) ⊎ ((e.key ≢ k) × IsHeld es k)
 held_cases es e k h =
@@ -117,15 +117,15 @@ held_more es e k apart h = (h.0, leaves_more es e h.0 h.1 (λ same-key. apart (s
 
 pub put_held : (old new : BTreeSet Key) (es : List Entry) (e : Entry) → IsPut e.change → Holds old new e.key → AreHeld old es → AreHeld new (es ++ e ∷ [])
 put_held old new es e put holds are k = (
-    (λ h. ⊎_elim (λ is. (e, leaves_last es e put, is)) (λ was. ⊎_elim (λ is. (e, leaves_last es e put, is)) (λ apart. held_more es e k apart ((are k).0 was)) (same_or_not e.key k)) ((holds k).0 h)),
-    (λ h. (holds k).1 (⊎_elim (λ p. inl p.0) (λ p. inr ((are k).1 p.1)) (held_cases es e k h))),
-  )
+  (λ h. ⊎_elim (λ is. (e, leaves_last es e put, is)) (λ was. ⊎_elim (λ is. (e, leaves_last es e put, is)) (λ apart. held_more es e k apart ((are k).0 was)) (same_or_not e.key k)) ((holds k).0 h)),
+  (λ h. (holds k).1 (⊎_elim (λ p. inl p.0) (λ p. inr ((are k).1 p.1)) (held_cases es e k h))),
+)
 
 pub removal_held : (old new : BTreeSet Key) (es : List Entry) (e : Entry) → (IsPut e.change → ⊥) → Releases old new e.key → AreHeld old es → AreHeld new (es ++ e ∷ [])
 removal_held old new es e no_put releases are k = (
-    (λ h. let was = (releases k).0 h in held_more es e k was.0 ((are k).0 was.1)),
-    (λ h. ⊎_elim (λ p. absurd (no_put p.1)) (λ p. (releases k).1 (p.0, (are k).1 p.1)) (held_cases es e k h)),
-  )
+  (λ h. let was = (releases k).0 h in held_more es e k was.0 ((are k).0 was.1)),
+  (λ h. ⊎_elim (λ p. absurd (no_put p.1)) (λ p. (releases k).1 (p.0, (are k).1 p.1)) (held_cases es e k h)),
+)
 
 -- ---- how many
 

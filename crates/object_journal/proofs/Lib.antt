@@ -5,4 +5,4 @@ mod Refusals
 mod PartLemmas
 mod HeldLemmas
 mod RuleLemmas
-mod WholeLemmas
+mod ReaderLemmas

@@ -1,5 +1,5 @@
 -- Which entry may follow others, and what follows from it.
-use Rattle.std.proofs.Common.{◌≡◌, ◌≢◌, ◌↔◌, ◌⊎◌, inl, inr, ⊎_elim, ℕ, ◌+◌, ◌≤◌, ◌<◌, List, [], ◌∷◌, ◌++◌, length, take, drop, refl, sym, ap, subst, ◌∙◌, arith, length-append}
+use Rattle.std.proofs.Common.{◌≡◌, ◌≢◌, ◌↔◌, ⊎_elim, ℕ, ◌+◌, ◌≤◌, ◌<◌, List, [], ◌∷◌, ◌++◌, length, take, drop, refl, sym, ap, subst, ◌∙◌, arith, length-append}
 use Rattle.std.specs.Prelude.{max, nat_eq, true}
 use Rattle.std.proofs.lemmas.Bool.Decides.{nat_tests}
 use Rattle.std.proofs.lemmas.Bool.{cases_lt}
@@ -7,9 +7,9 @@ use Rattle.std.proofs.lemmas.List.{take-append-drop, take_at}
 use Rattle.object_journal.specs.declared.entry.Entry.{Entry}
 use Rattle.object_journal.specs.declared.entry.Change.{Change}
 use Rattle.object_journal.specs.declared.entry.Change.TheVariants.{Removal}
-use Rattle.object_journal.specs.Payload.{payload_of, frame_bytes}
-use Rattle.object_journal.specs.Journal.{IsHeld, IsNextRevision, IsLawfulChange, MayFollow, HasNoNext, FewHeld, HasLawfulTexts, last_revision, revision_after}
-use Rattle.object_journal.specs.Parts.{IsPayload, IsRecordAt}
+use Rattle.object_journal.specs.Payload.{frame_bytes}
+use Rattle.object_journal.specs.Journal.{IsHeld, IsNextRevision, IsLawfulChange, MayFollow, HasNoNext, last_revision, revision_after}
+use Rattle.object_journal.specs.Parts.{IsRecordAt}
 use Rattle.object_journal.proofs.Readings.{IsRecord, record_of_lawful, one_record}
 
 base_below : (base : ℕ) (es : List Entry) → base ≤ revision_after base es
@@ -25,9 +25,9 @@ strictly a b le apart = ⊎_elim (λ lt. lt) (λ ge. absurd (apart (let e : b �
 
 pub next_above : (base greatest revision : ℕ) (before : List Entry) → greatest ≡ revision_after base before → greatest ≢ base → 1 ≤ revision → revision ≤ last_revision → (revision ≡ greatest + 1) ↔ IsNextRevision base before revision
 next_above base greatest revision before is apart first fits = (
-    (λ e. record { first = first; fits = fits; at_base = λ same. absurd (apart (is ∙ same)); above_base = λ above. e ∙ ap (λ (n : ℕ). n + 1) is }),
-    (λ next. next.above_base (strictly base (revision_after base before) (base_below base before) (λ same. apart (is ∙ same))) ∙ ap (λ (n : ℕ). n + 1) (sym is)),
-  )
+  (λ e. record { first = first; fits = fits; at_base = λ same. absurd (apart (is ∙ same)); above_base = λ above. e ∙ ap (λ (n : ℕ). n + 1) is }),
+  (λ next. next.above_base (strictly base (revision_after base before) (base_below base before) (λ same. apart (is ∙ same))) ∙ ap (λ (n : ℕ). n + 1) (sym is)),
+)
 
 removal_law : (before : List Entry) (e : Entry) (change : Change) → change ≡ Removal → IsHeld before e.key ↔ IsLawfulChange before e change
 removal_law before e change is = ((λ h. subst (IsLawfulChange before e) (sym is) h), (λ h. subst (IsLawfulChange before e) is h))

@@ -1,10 +1,10 @@
 -- The keys that a reader holds.
-use Rattle.std.specs.Prelude.{◌≡◌, ◌≢◌, ◌↔◌, ◌⊎◌, ℕ, ◌≤◌, ◌<◌, List, ◌++◌, length, drop, IsTrue}
+use Rattle.std.specs.Prelude.{◌≡◌, ◌≢◌, ◌↔◌, ◌⊎◌, List, IsTrue}
 use Rattle.std.specs.BTreeSet.{BTreeSet, contains}
 use Rattle.object_journal.specs.declared.key.Key.{Key}
 use Rattle.object_journal.specs.declared.entry.Entry.{Entry}
 use Rattle.object_journal.specs.KeyOrder.{by_key}
-use Rattle.object_journal.specs.Journal.{IsHeld, AreLawful, last_revision, revision_after, header_of, records_of}
+use Rattle.object_journal.specs.Journal.{IsHeld}
 
 -- the keys are those that the entries leave held
 abbrev pub AreHeld : BTreeSet Key → List Entry → Type 0

@@ -1,5 +1,5 @@
 -- What the bytes of a record are parted into.
-use Rattle.std.specs.Prelude.{◌≡◌, ◌≢◌, ℕ, ◌≤◌, ◌<◌, ◌^◌, List, ◌∷◌, ◌++◌, length, take}
+use Rattle.std.specs.Prelude.{◌≡◌, ℕ, ◌≤◌, ◌<◌, ◌^◌, List, ◌++◌, length, take}
 use Rattle.std.specs.Str.{IsUtf8}
 use Rattle.object_journal.specs.declared.key.Key.{Key}
 use Rattle.object_journal.specs.declared.entry.Entry.{Entry}
@@ -9,7 +9,7 @@ use Rattle.object_journal.specs.declared.parts.KeyPart.{KeyPart}
 use Rattle.object_journal.specs.declared.parts.ChangePart.{ChangePart}
 use Rattle.object_journal.specs.declared.parts.ChangePart.TheVariants.{Put, Removal}
 use Rattle.object_journal.specs.declared.parts.EntryPart.{EntryPart}
-use Rattle.object_journal.specs.Payload.{HasShortTexts, longest_payload, payload_of, frame_bytes, tag_of, created_of, body_of, text_field, key_fields}
+use Rattle.object_journal.specs.Payload.{longest_payload, payload_of, frame_bytes, tag_of, created_of, body_of, text_field, key_fields}
 use Rattle.object_journal.specs.Journal.{HasLawfulTexts}
 
 -- what stands in the file, as values

@@ -38,11 +38,7 @@ fn release(held: &mut BTreeSet<Key>, key: &Key)
 }
 
 /// Takes one more entry in.
-pub(crate) fn take_in(
-    alloc: Global,
-    held: &mut BTreeSet<Key>,
-    entry: &Entry,
-) -> Result<(), Memory>
+pub(crate) fn take_in(alloc: Global, held: &mut BTreeSet<Key>, entry: &Entry) -> Result<(), Memory>
     ensures { OnOk result ((entries : List Entry) → AreHeld held.old entries → AreHeld held.new (entries ++ entry.now ∷ [])) }
 {
     match &entry.change {

@@ -8,11 +8,11 @@ mod key;
 mod law;
 mod parting;
 mod parts;
+mod reader;
 mod reading;
 mod rules;
 #[cfg(test)]
 mod tests;
-mod whole;
 
 pub use entry::{Change, Entries, Entry};
 pub use framed::{FrameFault, Framed, frame};

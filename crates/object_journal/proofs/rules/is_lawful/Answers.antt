@@ -1,4 +1,4 @@
-use Rattle.std.proofs.Common.{IsTrue, ◌≡◌, true, ap, sym, ◌∙◌}
+use Rattle.std.proofs.Common.{IsTrue, sym, ◌∙◌}
 use Rattle.object_journal.proofs.RuleLemmas.{removal_lawful}
 use Rattle.object_journal.proofs.rules.is_lawful.Goals as goal
 

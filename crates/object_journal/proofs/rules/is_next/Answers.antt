@@ -1,5 +1,4 @@
-use Rattle.std.proofs.Common.{◌≡◌, ◌+◌, arith}
-use Rattle.std.proofs.lemmas.Bool.Decides.{nat_tests}
+use Rattle.std.proofs.Common.{◌+◌, arith}
 use Rattle.object_journal.proofs.RuleLemmas.{next_above, is_true_equal, equal_is_true}
 use Rattle.object_journal.proofs.rules.is_next.Goals as goal
 

@@ -1,7 +1,6 @@
-use Rattle.std.proofs.Common.{◌≡◌, List, [], ◌∷◌, ◌++◌, refl, sym, ap, subst, ◌∙◌, arith}
+use Rattle.std.proofs.Common.{[], ◌∷◌, ◌++◌, refl, sym, ap, subst, ◌∙◌, arith}
 use Rattle.std.specs.Prelude.{max, Err}
 use Rattle.std.proofs.lemmas.Bool.{false≢true}
-use Rattle.object_journal.specs.declared.entry.Entry.{Entry}
 use Rattle.object_journal.specs.Journal.{AreLawful, MayFollow, revision_after}
 use Rattle.object_journal.specs.HeldKeys.{AreHeld}
 use Rattle.object_journal.proofs.Appends.{lawful_more}

@@ -1,6 +1,6 @@
 use Rattle.std.proofs.Common.{◌-◌, length}
 use Rattle.object_journal.specs.Readings.{IsReadTo}
-use Rattle.object_journal.proofs.whole.read_behind.Given as goal
+use Rattle.object_journal.proofs.reader.read_behind.Given as goal
 
 abbrev pub invariant-loop-place : goal.invariant-loop-place
 invariant-loop-place l = IsReadTo l.reading l.bytes l.place

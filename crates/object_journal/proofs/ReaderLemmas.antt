@@ -1,6 +1,6 @@
 -- How a reader goes from gate to gate.
-use Rattle.std.proofs.Common.{◌≡◌, ◌≢◌, inl, inr, ℕ, suc, ◌+◌, ◌≤◌, ◌<◌, Bool, true, false, List, [], ◌∷◌, ◌++◌, length, get_or, take, drop, refl, sym, ap, subst, ◌∙◌, append_assoc, length-take, length-drop, drop-cons, add-one, arith}
-use Rattle.std.specs.BTreeSet.{BTreeSet, contains}
+use Rattle.std.proofs.Common.{◌≡◌, ◌≢◌, inl, inr, ℕ, suc, ◌+◌, ◌≤◌, ◌<◌, List, [], ◌∷◌, ◌++◌, length, get_or, take, drop, refl, sym, ap, subst, ◌∙◌, append_assoc, length-take, length-drop, drop-cons, add-one, arith}
+use Rattle.std.specs.BTreeSet.{BTreeSet}
 use Rattle.std.specs.BTreeMap.{is_at}
 use Rattle.std.specs.List.{list_any}
 use Rattle.std.proofs.lemmas.Bool.{false≢true}
@@ -11,29 +11,29 @@ use Rattle.object_journal.specs.declared.entry.Entry.{Entry}
 use Rattle.object_journal.specs.declared.reading.Reading.{Reading}
 use Rattle.object_journal.specs.Payload.{frame_bytes}
 use Rattle.object_journal.specs.KeyOrder.{by_key}
-use Rattle.object_journal.specs.Journal.{AreLawful, IsHeld, HasNoNext, IsHeader, IsGated, IsJournal, IsBrokenAt, last_revision, revision_after, open_gate, header_of, records_of}
+use Rattle.object_journal.specs.Journal.{AreLawful, HasNoNext, IsHeader, IsGated, IsJournal, IsBrokenAt, last_revision, revision_after, open_gate, header_of, records_of}
 use Rattle.object_journal.specs.HeldKeys.{AreHeld}
-use Rattle.object_journal.specs.Readings.{IsState, Begins, Advances, HasHeader, IsReadTo}
+use Rattle.object_journal.specs.Readings.{Begins, Advances, HasHeader, IsReadTo}
 use Rattle.object_journal.proofs.Appends.{not_empty, records_more}
 
 none_held : (held : BTreeSet Key) → held.keys ≡ [] → AreHeld held []
 none_held held none k = (
-    (λ there. absurd (false≢true (sym (ap (list_any (is_at (by_key k))) none) ∙ there))),
-    (λ h. absurd (not_empty h.1.before h.0 h.1.behind h.1.parts)),
-  )
+  (λ there. absurd (false≢true (sym (ap (list_any (is_at (by_key k))) none) ∙ there))),
+  (λ h. absurd (not_empty h.1.before h.0 h.1.behind h.1.parts)),
+)
 
 pub begins : (base : ℕ) (entries : List Entry) (held : BTreeSet Key) → base ≤ last_revision → entries ≡ [] → held.keys ≡ [] → Begins (record { base = base; revision = base; entries = entries; held = held }) base
 begins base entries held fits none empty = record {
-    state = record {
-      base_fits = fits;
-      lawful = subst (AreLawful base) (sym none) (λ before e behind p. absurd (not_empty before e behind p));
-      held = subst (AreHeld held) (sym none) (none_held held empty);
-      revision = ap (λ (es : List Entry). revision_after base es) (sym none);
-      revision_fits = fits;
-    };
-    base_is = refl;
-    none = none;
-  }
+  state = record {
+    base_fits = fits;
+    lawful = subst (AreLawful base) (sym none) (λ before e behind p. absurd (not_empty before e behind p));
+    held = subst (AreHeld held) (sym none) (none_held held empty);
+    revision = ap (λ (es : List Entry). revision_after base es) (sym none);
+    revision_fits = fits;
+  };
+  base_is = refl;
+  none = none;
+}
 
 -- the bytes in front of a gate, the gate, and those behind it
 at_gate : (bytes front : List ℕ) (place gate : ℕ) → take place bytes ≡ front → place < length bytes → get_or bytes place 0 ≡ gate → bytes ≡ front ++ gate ∷ drop (place + 1) bytes
@@ -46,32 +46,32 @@ whole_at r bytes place gate h byte = at_gate bytes (header_of r.base ++ records_
 
 pub starts : (r : Reading) (bytes : List ℕ) (base : ℕ) → Begins r base → HasHeader bytes base → 17 ≤ length bytes → IsReadTo r bytes 16
 starts r bytes base b h long = record {
-    state = b.state;
-    front = ap (λ (t : List ℕ). take 16 t) h.parts ∙ (λ i. header_of (sym b.base_is i) ++ records_of (sym b.none i));
-    within = omega (arith, long);
-  }
+  state = b.state;
+  front = ap (λ (t : List ℕ). take 16 t) h.parts ∙ (λ i. header_of (sym b.base_is i) ++ records_of (sym b.none i));
+  within = omega (arith, long);
+}
 
 pub ends : (r : Reading) (bytes : List ℕ) (place : ℕ) → IsReadTo r bytes place → get_or bytes place 0 ≢ open_gate → IsGated bytes r.base r.entries
 ends r bytes place h closed = record {
-    gate = get_or bytes place 0;
-    behind = drop (place + 1) bytes;
-    parts = whole_at r bytes place (get_or bytes place 0) h refl;
-    base_fits = h.state.base_fits;
-    lawful = h.state.lawful;
-    closed = closed;
-  }
+  gate = get_or bytes place 0;
+  behind = drop (place + 1) bytes;
+  parts = whole_at r bytes place (get_or bytes place 0) h refl;
+  base_fits = h.state.base_fits;
+  lawful = h.state.lawful;
+  closed = closed;
+}
 
 pub breaks : (r : Reading) (bytes : List ℕ) (place : ℕ) → IsReadTo r bytes place → get_or bytes place 0 ≡ open_gate → HasNoNext r.base r.entries (drop (place + 1) bytes) → IsBrokenAt bytes place
 breaks r bytes place h opened none = record {
-    base = r.base;
-    entries = r.entries;
-    rest = drop (place + 1) bytes;
-    parts = whole_at r bytes place open_gate h opened;
-    base_fits = h.state.base_fits;
-    lawful = h.state.lawful;
-    none = none;
-    place_is = omega (arith, ap length h.front, length-take place bytes, h.within);
-  }
+  base = r.base;
+  entries = r.entries;
+  rest = drop (place + 1) bytes;
+  parts = whole_at r bytes place open_gate h opened;
+  base_fits = h.state.base_fits;
+  lawful = h.state.lawful;
+  none = none;
+  place_is = omega (arith, ap length h.front, length-take place bytes, h.within);
+}
 
 first_more : (n g : ℕ) (d front : List ℕ) → take n d ≡ front → take (1 + n) (g ∷ d) ≡ g ∷ front
 first_more n g d front is =
@@ -101,10 +101,10 @@ one_left (a ∷ b ∷ l) size = absurd (omega (arith, size))
 
 alone : (bytes : List ℕ) (base : ℕ) → HasHeader bytes base → length bytes ≡ 17 → IsHeader bytes base
 alone bytes base h size = record {
-    gate = get_or (drop 16 bytes) 0 0;
-    parts = h.parts ∙ ap (λ (t : List ℕ). header_of base ++ t) (one_left (drop 16 bytes) (omega (arith, length-drop 16 bytes, size)));
-    base_fits = h.base_fits;
-  }
+  gate = get_or (drop 16 bytes) 0 0;
+  parts = h.parts ∙ ap (λ (t : List ℕ). header_of base ++ t) (one_left (drop 16 bytes) (omega (arith, length-drop 16 bytes, size)));
+  base_fits = h.base_fits;
+}
 
 pub header_alone : (r : Reading) (bytes : List ℕ) (base : ℕ) → Begins r base → HasHeader bytes base → length bytes ≡ 17 → IsJournal bytes r.base r.entries
 header_alone r bytes base b h size = inr (inl (subst (IsHeader bytes) (sym b.base_is) (alone bytes base h size), b.none))

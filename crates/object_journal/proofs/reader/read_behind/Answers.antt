@@ -1,9 +1,9 @@
-use Rattle.std.proofs.Common.{◌≡◌, ◌+◌, ap, subst, drop}
+use Rattle.std.proofs.Common.{◌≡◌, ap, subst}
 use Rattle.std.specs.Prelude.{Err}
 use Rattle.object_journal.specs.Journal.{HasNoNext, IsBrokenAt}
 use Rattle.object_journal.specs.Readings.{Advances}
-use Rattle.object_journal.proofs.WholeLemmas.{goes_on, ends, breaks}
-use Rattle.object_journal.proofs.whole.read_behind.Goals as goal
+use Rattle.object_journal.proofs.ReaderLemmas.{goes_on, ends, breaks}
+use Rattle.object_journal.proofs.reader.read_behind.Goals as goal
 
 pub loop-place-preserved : goal.loop-place-preserved
 loop-place-preserved c =
