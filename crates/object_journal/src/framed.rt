@@ -1,7 +1,6 @@
-ghost use Rattle.std.specs.Prelude.{◌≡◌, ◌↔◌, ◌<◌, ◌≤◌, ◌-◌, ◌^◌, ◌++◌, length, IfOk, OnOk, IsErrOf};
-ghost use Rattle.std.specs.Int.{w16, to_be_bytes};
+ghost use Rattle.std.specs.Prelude.{◌≡◌, ◌↔◌, ◌<◌, ◌≤◌, ◌^◌, ◌++◌, length, IfOk, OnOk, IsErrOf};
 ghost use Rattle.object_journal.specs.Payload.{HasShortTexts, longest_payload, payload_of, frame_bytes, tag_of, created_of, number_fields, key_fields, text_field, body_of};
-ghost use Rattle.object_journal.specs.Frames.{IsFrame, entry_of};
+ghost use Rattle.object_journal.specs.Frames.{IsFrame};
 
 use crate::entry::{Change, Entry};
 use crate::key::Key;

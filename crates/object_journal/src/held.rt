@@ -1,5 +1,5 @@
 //! The keys that entries leave held.
-ghost use Rattle.std.specs.Prelude.{◌↔◌, ◌≤◌, ◌++◌, [], ◌∷◌, ℕ, List, IsTrue, OnOk};
+ghost use Rattle.std.specs.Prelude.{◌↔◌, ◌++◌, [], ◌∷◌, List, IsTrue, OnOk};
 ghost use Rattle.object_journal.specs.declared.entry.Entry.{Entry};
 ghost use Rattle.object_journal.specs.Journal.{FewHeld};
 ghost use Rattle.object_journal.specs.HeldKeys.{AreHeld, Holds, Releases};

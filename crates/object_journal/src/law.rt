@@ -1,4 +1,4 @@
-ghost use Rattle.std.specs.Prelude.{◌≡◌, ◌≢◌, ◌≤◌, ℕ, List, [], ◌∷◌, ◌++◌};
+ghost use Rattle.std.specs.Prelude.{◌≡◌, ◌≢◌, ℕ, List, [], ◌∷◌, ◌++◌};
 ghost use Rattle.object_journal.specs.declared.entry.Entry.{Entry};
 ghost use Rattle.object_journal.specs.Journal.{IsJournal, IsRefusal, IsGated, MayFollow, open_gate, header_of, records_of};
 ghost use Rattle.object_journal.specs.Payload.{frame_bytes};

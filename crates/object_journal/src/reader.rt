@@ -1,5 +1,5 @@
 //! Reading a journal from its bytes.
-ghost use Rattle.std.specs.Prelude.{◌≡◌, ◌≤◌, ℕ, length, IfSome, IfNone, IfOk, IsErrOf};
+ghost use Rattle.std.specs.Prelude.{◌≤◌, ℕ, length, IfSome, IfNone, IfOk, IsErrOf};
 ghost use Rattle.object_journal.specs.Journal.{HasNoHeader, IsGated, IsBrokenAt, IsJournal, IsRefusal, last_revision};
 ghost use Rattle.object_journal.specs.declared.reader.ReadFault.TheVariants.{BrokenAt};
 ghost use Rattle.object_journal.specs.Readings.{HasHeader, Begins, IsState};

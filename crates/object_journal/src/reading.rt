@@ -1,5 +1,5 @@
 //! What was read of a journal.
-ghost use Rattle.std.specs.Prelude.{◌≡◌, IfOk, IsErrOf};
+ghost use Rattle.std.specs.Prelude.{IfOk, IsErrOf};
 ghost use Rattle.object_journal.specs.Journal.{HasNoNext};
 
 use crate::entry::{Entries, Entry};

@@ -1,5 +1,5 @@
 //! Which entry may follow others.
-ghost use Rattle.std.specs.Prelude.{◌≡◌, ◌↔◌, ◌≤◌, ℕ, List, IsTrue, IfOk};
+ghost use Rattle.std.specs.Prelude.{◌≡◌, ◌↔◌, ◌≤◌, List, IsTrue, IfOk};
 ghost use Rattle.object_journal.specs.declared.entry.Entry.{Entry};
 ghost use Rattle.object_journal.specs.Journal.{IsNextRevision, IsLawfulChange, last_revision, revision_after};
 ghost use Rattle.object_journal.specs.Parts.{change_seen, entry_seen};
