@@ -28,9 +28,10 @@ pub(crate) struct Reading {
 }
 
 impl Reading {
-    // The entry of the record at the front, which may follow but for the number of keys, and the place of the gate behind it.
     ghost use Rattle.object_journal.specs.Readings.{IsState, IsNextRecord, Advances};
 
+    // The entry of the record at the front, which may follow but for the number of keys, and the place of the gate behind
+    // it.
     fn next(&self, alloc: Global, bytes: &[u8]) -> Result<(Entry, usize), RecordFault>
         requires { IsState self.now }
         ensures ok { IfOk result (λ r. IsNextRecord self.now bytes.now r.0 r.1) }
