@@ -8,7 +8,7 @@ use Rattle.object_journal.specs.declared.entry.Entry.{Entry}
 use Rattle.object_journal.specs.declared.entry.Change.{Change}
 use Rattle.object_journal.specs.declared.entry.Change.TheVariants.{Removal}
 use Rattle.object_journal.specs.Payload.{frame_bytes}
-use Rattle.object_journal.specs.Journal.{IsHeld, IsNextRevision, IsLawfulChange, MayFollow, HasNoNext, last_revision, revision_after}
+use Rattle.object_journal.specs.Journal.{IsHeld, IsNextRevision, IsLawfulChange, MayFollow, AreLawful, HasNoNext, last_revision, revision_after}
 use Rattle.object_journal.specs.Parts.{IsRecordAt}
 use Rattle.object_journal.proofs.Readings.{IsRecord, record_of_lawful, one_record}
 
@@ -64,3 +64,12 @@ is_true_equal a b t = grind (arith, nat_tests)
 
 pub equal_is_true : (a b : ℕ) → a ≡ b → nat_eq a b ≡ true
 equal_is_true a b e = grind (arith, nat_tests)
+
+last_is : (base n r : ℕ) → base ≤ n → (base < n → r ≡ n + 1) → base < max n r → max n r ≡ r
+last_is base n r low next above = ⊎_elim (λ lt. omega (arith, next lt)) (λ ge. omega (arith, low, ge, above)) (cases_lt base n)
+
+pub last_greatest : (base : ℕ) (es front : List Entry) (last : Entry) → AreLawful base es → base < revision_after base es → es ≡ front ++ last ∷ [] → revision_after base es ≡ last.revision
+last_greatest base es front last lawful above is =
+    let may = lawful front last [] is in
+    let split : revision_after base es ≡ max (revision_after base front) last.revision = ap (revision_after base) is ∙ revision_more base front last in
+    split ∙ last_is base (revision_after base front) last.revision (base_below base front) may.revision.above_base (subst (λ n. base < n) split above)

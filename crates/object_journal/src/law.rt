@@ -1,8 +1,9 @@
-ghost use Rattle.std.specs.Prelude.{◌≡◌, ◌≢◌, ℕ, List, [], ◌∷◌, ◌++◌};
+ghost use Rattle.std.specs.Prelude.{◌≡◌, ◌≢◌, ◌<◌, ℕ, List, [], ◌∷◌, ◌++◌};
 ghost use Rattle.object_journal.specs.declared.entry.Entry.{Entry};
-ghost use Rattle.object_journal.specs.Journal.{IsJournal, IsRefusal, IsGated, MayFollow, open_gate, header_of, records_of};
+ghost use Rattle.object_journal.specs.Journal.{IsJournal, IsRefusal, IsGated, MayFollow, AreLawful, revision_after, open_gate, header_of, records_of};
 ghost use Rattle.object_journal.specs.Payload.{frame_bytes};
 
+use crate::entry::Entry;
 use crate::framed::Framed;
 
 /// The law of one reading: bytes mean at most one base with at most one list of entries, and bytes that mean any have no
@@ -19,4 +20,12 @@ pub fn bytes_have_one_reading(bytes: &[u8])
 /// follows the closed gate. Nothing is computed here; the law is the contract.
 pub fn record_is_read_again(framed: &Framed)
     ensures { (base gate : ℕ) (entries : List Entry) (bytes behind : List ℕ) → IsGated bytes base entries → MayFollow base entries framed.now → gate ≢ open_gate → IsGated (header_of base ++ (records_of entries ++ ((open_gate ∷ frame_bytes framed.now) ++ gate ∷ behind))) base (entries ++ framed.now ∷ []) }
+{}
+
+/// The law of the last revision: where lawful entries have a revision above the base, the greatest is that of the last of
+/// them. So the revision that may follow is one above the last. Nothing is computed here; the law is the contract.
+pub fn last_revision_is_the_greatest(base: u64, entries: &[Entry])
+    requires lawful { AreLawful base entries.now }
+    requires above { base < revision_after base entries.now }
+    ensures { (front : List Entry) (last : Entry) → entries.now ≡ front ++ last ∷ [] → revision_after base entries.now ≡ last.revision }
 {}

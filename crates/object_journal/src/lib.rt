@@ -17,4 +17,4 @@ mod tests;
 pub use entry::{Change, Entries, Entry};
 pub use framed::{FrameFault, Framed, frame};
 pub use key::Key;
-pub use law::{bytes_have_one_reading, record_is_read_again};
+pub use law::{bytes_have_one_reading, last_revision_is_the_greatest, record_is_read_again};
