@@ -13,7 +13,7 @@ use Rattle.object_journal.specs.Payload.{frame_bytes}
 use Rattle.object_journal.specs.KeyOrder.{by_key}
 use Rattle.object_journal.specs.Journal.{AreLawful, HasNoNext, IsHeader, IsGated, IsJournal, IsBrokenAt, last_revision, revision_after, open_gate, header_of, records_of}
 use Rattle.object_journal.specs.HeldKeys.{AreHeld}
-use Rattle.object_journal.specs.Readings.{Begins, Advances, HasHeader, IsReadTo}
+use Rattle.object_journal.specs.Readings.{Begins, Advances, HasHeader, IsReadTo, IsGateOf}
 use Rattle.object_journal.proofs.Appends.{not_empty, records_more}
 
 none_held : (held : BTreeSet Key) → held.keys ≡ [] → AreHeld held []
@@ -108,3 +108,6 @@ alone bytes base h size = record {
 
 pub header_alone : (r : Reading) (bytes : List ℕ) (base : ℕ) → Begins r base → HasHeader bytes base → length bytes ≡ 17 → IsJournal bytes r.base r.entries
 header_alone r bytes base b h size = inr (inl (subst (IsHeader bytes) (sym b.base_is) (alone bytes base h size), b.none))
+
+pub gate_at : (r : Reading) (bytes : List ℕ) (place : ℕ) → IsReadTo r bytes place → IsGateOf r place
+gate_at r bytes place h = omega (arith, ap length h.front, length-take place bytes, h.within)

@@ -45,3 +45,7 @@ pub record IsReadTo (r : Reading) (bytes : List ℕ) (place : ℕ) : Type 0 wher
   pub state : IsState r
   pub front : take place bytes ≡ header_of r.base ++ records_of r.entries
   pub within : place < length bytes
+
+-- the place of the gate behind what was read
+abbrev pub IsGateOf : Reading → ℕ → Type 0
+IsGateOf r place = place ≡ length (header_of r.base ++ records_of r.entries)

@@ -2,7 +2,7 @@
 ghost use Rattle.std.specs.Prelude.{◌≤◌, ℕ, length, IfSome, IfNone, IfOk, IsErrOf};
 ghost use Rattle.object_journal.specs.Journal.{HasNoHeader, IsGated, IsBrokenAt, IsJournal, IsRefusal, last_revision};
 ghost use Rattle.object_journal.specs.declared.reader.ReadFault.TheVariants.{BrokenAt};
-ghost use Rattle.object_journal.specs.Readings.{HasHeader, Begins, IsState};
+ghost use Rattle.object_journal.specs.Readings.{HasHeader, Begins, IsState, IsGateOf};
 
 use crate::entry::Entries;
 use crate::parting::take_u64;
@@ -51,11 +51,12 @@ fn begun(alloc: Global, base: u64) -> Reading
     }
 }
 
-fn read_behind(alloc: Global, bytes: &[u8], base: u64) -> Result<Reading, ReadFault>
+fn read_behind(alloc: Global, bytes: &[u8], base: u64) -> Result<(Reading, usize), ReadFault>
     requires header { HasHeader bytes.now base }
     requires long { 17 ≤ length bytes.now }
-    ensures ok { IfOk result (λ r. IsGated bytes.now r.base r.entries) }
-    ensures state { IfOk result (λ r. IsState r) }
+    ensures ok { IfOk result (λ r. IsGated bytes.now r.0.base r.0.entries) }
+    ensures state { IfOk result (λ r. IsState r.0) }
+    ensures gate { IfOk result (λ r. IsGateOf r.0 r.1) }
     ensures broken { (place : ℕ) → IsErrOf result (BrokenAt place) → IsBrokenAt bytes.now place }
 {
     let mut reading = begun(alloc, base);
@@ -68,23 +69,24 @@ fn read_behind(alloc: Global, bytes: &[u8], base: u64) -> Result<Reading, ReadFa
             Err(RecordFault::Memory) => return Err(ReadFault::Memory),
         }
     }
-    Ok(reading)
+    Ok((reading, place))
 }
 
-/// What the bytes of a file mean, or the place where they break the grammar.
-pub(crate) fn read_journal(alloc: Global, bytes: &[u8]) -> Result<Reading, ReadFault>
-    ensures ok { IfOk result (λ r. IsJournal bytes.now r.base r.entries) }
-    ensures state { IfOk result (λ r. IsState r) }
+/// What the bytes of a file mean and the place of the gate behind it, or the place where they break the grammar.
+pub(crate) fn read_journal(alloc: Global, bytes: &[u8]) -> Result<(Reading, usize), ReadFault>
+    ensures ok { IfOk result (λ r. IsJournal bytes.now r.0.base r.0.entries) }
+    ensures state { IfOk result (λ r. IsState r.0) }
+    ensures gate { IfOk result (λ r. IsGateOf r.0 r.1) }
     ensures broken { (place : ℕ) → IsErrOf result (BrokenAt place) → IsRefusal bytes.now place }
 {
     if bytes.len() <= 16 {
-        return Ok(begun(alloc, 0));
+        return Ok((begun(alloc, 0), 16));
     }
     let Some(base) = base_of(bytes) else {
         return Err(ReadFault::BrokenAt(0));
     };
     if bytes.len() == 17 {
-        return Ok(begun(alloc, base));
+        return Ok((begun(alloc, base), 16));
     }
     read_behind(alloc, bytes, base)
 }

@@ -75,7 +75,7 @@ fn answer(alloc: Global, file: &[u8], at: u8, with: &[u8]) -> Result<usize, Read
     };
     match changed(alloc, front, with, rest) {
         Ok(bytes) => match read_journal(alloc, bytes.as_slice()) {
-            Ok(reading) => Ok(reading.entries.items().len()),
+            Ok((reading, _)) => Ok(reading.entries.items().len()),
             Err(fault) => Err(fault),
         },
         Err(_) => Err(ReadFault::Memory),

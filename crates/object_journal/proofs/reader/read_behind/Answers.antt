@@ -2,7 +2,7 @@ use Rattle.std.proofs.Common.{◌≡◌, ap, subst}
 use Rattle.std.specs.Prelude.{Err}
 use Rattle.object_journal.specs.Journal.{HasNoNext, IsBrokenAt}
 use Rattle.object_journal.specs.Readings.{Advances}
-use Rattle.object_journal.proofs.ReaderLemmas.{goes_on, ends, breaks}
+use Rattle.object_journal.proofs.ReaderLemmas.{goes_on, ends, breaks, gate_at}
 use Rattle.object_journal.proofs.reader.read_behind.Goals as goal
 
 pub loop-place-preserved : goal.loop-place-preserved
@@ -20,3 +20,6 @@ returns-in-Err-Unlawful-clause-broken c = λ place is.
 
 pub returns-clause-ok : goal.returns-clause-ok
 returns-clause-ok c = ends c.loop-place.reading c.args.bytes.now c.loop-place.place c.loop-place.invariant c.loop-place-test.false
+
+pub returns-clause-gate : goal.returns-clause-gate
+returns-clause-gate c = gate_at c.loop-place.reading c.args.bytes.now c.loop-place.place c.loop-place.invariant
