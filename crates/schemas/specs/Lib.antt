@@ -5,7 +5,9 @@ pub mod Fields
 pub mod Places
 pub mod GateRules
 pub mod ApiRules
+pub mod Cutoff
 pub mod Pairs
+pub mod Rows
 pub mod FieldRules
 pub mod SpellRules
 pub mod Rules
