@@ -2,6 +2,8 @@ pub mod ListLemmas
 pub mod KnownLemmas
 pub mod GatherLemmas
 pub mod LookupLemmas
+pub mod SpellingLemmas
+pub mod TextLemmas
 pub mod LiveLemmas
 pub mod ViewLemmas
 pub mod GateLemmas

@@ -2,6 +2,7 @@ pub mod Known
 pub mod Served
 pub mod Gates
 pub mod Views
+pub mod Spelling
 pub mod Fields
 pub mod Laws
 pub mod Order

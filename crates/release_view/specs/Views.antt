@@ -7,6 +7,7 @@ use Rattle.fields.specs.declared.table.VersionTable.{VersionTable}
 use Rattle.gate_flags.specs.Values.{Gates}
 use Rattle.gate_spec.specs.Gates.{cutoff as gate_cutoff}
 use Rattle.lifecycle.specs.Entry.{GroupVersionResource}
+use Rattle.lifecycle.specs.Names.{group_version}
 use Rattle.lifecycle.specs.Stability.{by_stability}
 use Rattle.lifecycle.specs.Tables.{Deprecation, cutoff, live}
 use Rattle.lifecycle.specs.declared.entry.ApiEntry.{ApiEntry}
@@ -57,6 +58,24 @@ warning_in versions name = option_and_then (λ v. option_map deprecation v.warni
 
 abbrev pub served_in : List KnownVersion → GroupVersionResource → Option ServedVersion
 served_in versions name = find (is_shown_as name) (served_of versions)
+
+-- the version has this `apiVersion` text
+abbrev pub has_version_text : List ℕ → KnownVersion → Bool
+has_version_text text v = bytes_eq (group_version v.table.group v.table.version) text
+
+abbrev pub is_of_kind : List ℕ → List ℕ → KnownVersion → Bool
+is_of_kind text kind v = has_version_text text v && bytes_eq v.table.kind kind
+
+abbrev pub is_of_resource : List ℕ → List ℕ → List ℕ → KnownVersion → Bool
+is_of_resource text group resource v = has_version_text text v && bytes_eq v.table.group group && bytes_eq v.table.resource resource
+
+-- the table of the version that objects of this `apiVersion` and kind are in
+abbrev pub kind_table_in : List KnownVersion → List ℕ → List ℕ → Option VersionTable
+kind_table_in versions text kind = option_map (λ v. v.table) (find (is_of_kind text kind) versions)
+
+-- the table of the resource's version with this `apiVersion` text
+abbrev pub version_table_in : List KnownVersion → List ℕ → List ℕ → List ℕ → Option VersionTable
+version_table_in versions text group resource = option_map (λ v. v.table) (find (is_of_resource text group resource) versions)
 
 -- a live version of the resource
 abbrev pub is_live_of : List ℕ → List ℕ → KnownVersion → Bool

@@ -10,5 +10,5 @@ mod served;
 
 pub use build::view;
 pub use law::{tables_determine_view, texts_make_view, view_tells_tables};
-pub use release::View;
+pub use release::{View, versions_spell_alike};
 pub use served::ServedVersion;

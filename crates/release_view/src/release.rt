@@ -1,9 +1,11 @@
-ghost use Rattle.std.specs.Prelude.{◌≡◌, IfSome, find, option_copied, option_map, is_some};
+ghost use Rattle.std.specs.Prelude.{◌≡◌, ◌≢◌, ◌↔◌, ◌++◌, ℕ, List, IsTrue, IfSome, IfNone, codes, find, option_copied, option_map, is_some};
+ghost use Rattle.fields.specs.Table.{AreLawful};
 ghost use Rattle.lifecycle.specs.Entry.{named};
 ghost use Rattle.lifecycle.specs.Warnings.{told};
 ghost use Rattle.release_view.specs.Known.{AreInPlace, deprecation};
 ghost use Rattle.release_view.specs.Served.{served_of};
-ghost use Rattle.release_view.specs.Views.{has_name, is_shown_as, version_in, table_in, served_in, warning_in, is_live_of, has_live, IsBestTable};
+ghost use Rattle.release_view.specs.Spelling.{HaveLawfulTables, SpellAlike};
+ghost use Rattle.release_view.specs.Views.{has_name, is_shown_as, version_in, table_in, has_version_text, is_of_kind, is_of_resource, kind_table_in, version_table_in, served_in, warning_in, is_live_of, has_live, IsBestTable};
 
 use crate::known::{KnownVersion, Planned};
 use crate::served::ServedVersion;
@@ -69,6 +71,51 @@ fn is_live_of(version: &KnownVersion, group: &[u8], resource: &[u8]) -> bool
         && version.table.resource.bytes() == resource
 }
 
+fn behind<'a>(text: &'a str, front: &str) -> Option<&'a str>
+    ensures some { IfSome result (λ rest. text.now ≡ front.now ++ rest.now) }
+    ensures none { IfNone result ((rest : List ℕ) → text.now ≢ front.now ++ rest) }
+{
+    text.strip_prefix(front)
+}
+
+fn is_joined(text: &str, group: &str, version: &str) -> bool
+    ensures { IsTrue result ↔ (text.now ≡ group.now ++ codes "/" ++ version.now) }
+{
+    let Some(rest) = behind(text, group) else {
+        return false;
+    };
+    match behind(rest, "/") {
+        Some(rest) => rest == version,
+        None => false,
+    }
+}
+
+fn has_version_text(version: &KnownVersion, text: &str) -> bool
+    ensures { result ≡ has_version_text text.now version.now }
+{
+    let group = version.table.group.as_str();
+    let version = version.table.version.as_str();
+    if group.is_empty() {
+        version == text
+    } else {
+        is_joined(text, group, version)
+    }
+}
+
+fn is_of_kind(version: &KnownVersion, text: &str, kind: &str) -> bool
+    ensures { result ≡ is_of_kind text.now kind.now version.now }
+{
+    has_version_text(version, text) && version.table.kind.as_str() == kind
+}
+
+fn is_of_resource(version: &KnownVersion, text: &str, group: &[u8], resource: &[u8]) -> bool
+    ensures { result ≡ is_of_resource text.now group.now resource.now version.now }
+{
+    has_version_text(version, text)
+        && version.table.group.bytes() == group
+        && version.table.resource.bytes() == resource
+}
+
 fn version_in<'a>(versions: &'a [KnownVersion], name: ApiName<'_>) -> Option<&'a KnownVersion>
     ensures { option_copied result ≡ version_in versions.now (named name.entry) }
 {
@@ -98,6 +145,8 @@ impl View {
     ) -> View
         requires order { AreInPlace versions.items }
         requires listed { served.items ≡ served_of versions.items }
+        requires lawful { HaveLawfulTables versions.items }
+        requires alike { SpellAlike versions.items }
         ensures minor { result.minor ≡ minor }
         ensures gates { result.gates ≡ gates }
         ensures versions { result.versions ≡ versions.items }
@@ -136,9 +185,40 @@ impl View {
 
     /// The version's table. None where objects in the version aren't read at the release.
     pub fn table(&self, name: ApiName<'_>) -> Option<&VersionTable>
-        ensures { option_copied result ≡ table_in self.now.versions (named name.entry) }
+        ensures value { option_copied result ≡ table_in self.now.versions (named name.entry) }
+        ensures lawful { IfSome result (λ t. AreLawful t.now.rows) }
     {
         match version_in(self.versions.as_slice(), name) {
+            Some(version) => Some(&version.table),
+            None => None,
+        }
+    }
+
+    /// The table of the version that objects with this `apiVersion` and `kind` are in. None where there is none that is
+    /// read at the release.
+    pub fn table_of_kind(&self, api_version: &str, kind: &str) -> Option<&VersionTable>
+        ensures value { option_copied result ≡ kind_table_in self.now.versions api_version.now kind.now }
+        ensures lawful { IfSome result (λ t. AreLawful t.now.rows) }
+    {
+        let mut versions = self.versions.iter();
+        match versions.find(|version| is_of_kind(version, api_version, kind)) {
+            Some(version) => Some(&version.table),
+            None => None,
+        }
+    }
+
+    /// The table of the resource's version with this `apiVersion`. None where there is none that is read at the release.
+    pub fn table_of_version(
+        &self,
+        api_version: &str,
+        group: &[u8],
+        resource: &[u8],
+    ) -> Option<&VersionTable>
+        ensures value { option_copied result ≡ version_table_in self.now.versions api_version.now group.now resource.now }
+        ensures lawful { IfSome result (λ t. AreLawful t.now.rows) }
+    {
+        let mut versions = self.versions.iter();
+        match versions.find(|version| is_of_resource(version, api_version, group, resource)) {
             Some(version) => Some(&version.table),
             None => None,
         }
@@ -185,4 +265,11 @@ impl View {
     {
         &self.gates
     }
+}
+
+/// The versions of one resource in a view spell the same fields. Nothing is computed here; the law is the contract.
+pub fn versions_spell_alike(view: &View)
+    ensures { SpellAlike view.now.versions }
+{
+    let _versions = &view.versions;
 }

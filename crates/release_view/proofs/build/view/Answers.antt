@@ -3,6 +3,7 @@ use Rattle.lifecycle.specs.Tables.{cutoff}
 use Rattle.lifecycle.specs.declared.entry.ApiEntry.{ApiEntry}
 use Rattle.lifecycle.specs.Version.{IsVersion}
 use Rattle.release_view.specs.Parts.{IsGathered}
+use Rattle.release_view.proofs.SpellingLemmas.{lawful_gathered, alike_gathered}
 use Rattle.release_view.proofs.LiveLemmas.{viewed_so, shaped_versions}
 use Rattle.release_view.proofs.build.view.Goals as goal
 
@@ -16,3 +17,9 @@ returns c =
     let one = subst (λ ts. IsGathered ts c.args.on c.items-entries.result.now c.in_ok-versions.versions.items) tables c.in_ok-versions.ensures in
     let two = subst (λ xs. IsGathered (cutoff c.args.a.now.apis c.args.e) c.args.on xs c.in_ok-versions.versions.items) same one in
     viewed_so c.args.a.now c.history-history.ensures.accepted c.args.e c.args.on c.in_ok-versions.versions.items two c.args.gates c.new.result c.new.ensures.minor c.new.ensures.gates c.new.ensures.versions
+
+pub new-requires-clause-lawful : goal.new-requires-clause-lawful
+new-requires-clause-lawful c = lawful_gathered c.in_ok-index.index c.args.on c.items-entries.result.now c.in_ok-versions.versions.items c.in_ok-versions.ensures
+
+pub new-requires-clause-alike : goal.new-requires-clause-alike
+new-requires-clause-alike c = alike_gathered c.in_ok-index.index c.args.on c.items-entries.result.now c.in_ok-versions.versions.items c.in_ok-versions.ensures
