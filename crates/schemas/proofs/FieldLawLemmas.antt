@@ -10,7 +10,7 @@ use Rattle.basis.proofs.ElementLemmas.{Any-weaker}
 use Rattle.fields.specs.Table.{AreApart}
 use Rattle.fields.specs.declared.field.Field.{Field}
 use Rattle.fields.specs.declared.field.Spell.{Spell}
-use Rattle.lifecycle.specs.Entry.{GroupVersionResource, subject, IsIntroduction, IsRemoval, IsKnownOf, IsRemoved, IsLive}
+use Rattle.lifecycle.specs.Entry.{GroupVersionResource, subject, IsIntroduction, IsRemoval, IsKnownOf, IsIntroduced, IsRemoved, IsLive}
 use Rattle.lifecycle.specs.declared.entry.ApiChange.{ApiChange}
 use Rattle.lifecycle.specs.declared.entry.ApiChange.TheVariants.{Introduced, Deprecated, Removed, Forgotten}
 use Rattle.lifecycle.specs.declared.entry.ApiEntry.{ApiEntry}
@@ -18,6 +18,7 @@ use Rattle.schemas.specs.ApiRules.{is_of_version, previous_of_version, name_of, 
 use Rattle.schemas.specs.Dated.{Dated}
 use Rattle.schemas.specs.Places.{Each}
 use Rattle.schemas.specs.Rules.{IsAccepted}
+use Rattle.schemas.proofs.DecodableLemmas.{decodable_dated}
 use Rattle.schemas.proofs.LawLemmas.{any_stands, introduced_later, introduced_once}
 use Rattle.schemas.proofs.PlaceLemmas.{some_injective}
 use Rattle.schemas.proofs.PreviousLemmas.{entry_at, IsLast, last_passing_is}
@@ -28,7 +29,7 @@ use Rattle.schemas.specs.Pairs.{IsPair, IsOfField, IsOfVersion, IsSpelling, Spel
 some_at : {E : Type 0} (P : E → Type 0) (xs : List E) (i : ℕ) (x : E) → slice_get xs i ≡ Some x → P x → Any P xs
 some_at P xs i x stands here = (i, x, slice_get_within xs i x stands, get_or_from_slice_get xs i x x stands, here)
 
-each_at : {E : Type 0} (P : E → Type 0) (xs : List E) (i : ℕ) (x : E) → slice_get xs i ≡ Some x → All P xs → P x
+pub each_at : {E : Type 0} (P : E → Type 0) (xs : List E) (i : ℕ) (x : E) → slice_get xs i ≡ Some x → All P xs → P x
 each_at P xs i x stands all = subst P (get_or_from_slice_get xs i x x stands) (all i x (slice_get_within xs i x stands))
 
 earlier_at : {E : Type 0} (P : E → Type 0) (xs : List E) (i j : ℕ) (x : E) → i < j → j ≤ length xs → slice_get xs i ≡ Some x → All P (take j xs) → P x
@@ -76,7 +77,7 @@ removed_before apis name m e k x near bound known (Some y) last late =
     )
 
 pub stays_decodable : (apis : List ApiEntry) → Each (ForgetsLate apis) apis → LiveStaysDecodable apis
-stays_decodable apis late = λ (name : GroupVersionResource) (m e : ℕ) (later : m ≤ e) (near : e ≤ m + 3) (live : IsLive apis name m). (
+stays_decodable apis late = λ (name : GroupVersionResource) (m e : ℕ) (later : m ≤ e) (near : e ≤ m + 3) (live : IsLive apis name m). (decodable_dated apis name e).1 (
   introduced_later apis name m e later live.0,
   λ (forgotten : IsForgotten apis name e).
       let P : ApiEntry → Type 0 = λ x. IsKnownOf name e x × IsForgetting x.change in
@@ -152,7 +153,7 @@ pairs_of : (h : Dated) → IsAccepted h → ArePairsKept h
 pairs_of h lawful = record { of_fields = lawful.spelled_throughout; of_spellings = lawful.spelled_once }
 
 -- HR15: paths are apart both ways
-turned : (p q : List (List ℕ)) → AreApart p q → AreApart q p
+pub turned : (p q : List (List ℕ)) → AreApart p q → AreApart q p
 turned p q apart = record { not_through = apart.not_within; not_within = apart.not_through }
 
 pub paths_apart : (h : Dated) → IsAccepted h → PathsAreApart h.spells
@@ -162,7 +163,7 @@ paths_apart h lawful = λ (i j : ℕ) (s t : Spell) (less : i < j) (at_i : slice
     turned t.path s.path (earlier_at (λ u. AreOfOneVersion t u → AreApart t.path u.path) h.spells i j s less bound at_i (lawful.paths_apart j t at_j).apart (record { group = sym one.group; version = sym one.version; resource = sym one.resource }))
 
 -- the field of a spelling and the introduction of its version are those that it names
-one_field : (h : Dated) → IsAccepted h → (i j : ℕ) (f g : Field) → slice_get h.fields i ≡ Some f → slice_get h.fields j ≡ Some g → AreOneField f g → AreOneField g f → f ≡ g
+pub one_field : (h : Dated) → IsAccepted h → (i j : ℕ) (f g : Field) → slice_get h.fields i ≡ Some f → slice_get h.fields j ≡ Some g → AreOneField f g → AreOneField g f → f ≡ g
 one_field h lawful i j f g at_i at_j one two =
     let same : i ≡ j = one_place AreOneField h.fields (λ k x stands. (lawful.fields_belong k x stands).once) i j f g at_i at_j one two in
     some_injective f g (sym at_i ∙ subst (λ (k : ℕ). slice_get h.fields k ≡ Some g) (sym same) at_j)
@@ -204,7 +205,8 @@ dated_by h lawful i j k e f x s at_i at_j at_k is spelling field_by version_by =
     omega arith
 
 pub decodable_spelled : (h : Dated) → IsAccepted h → DecodableIsSpelled h
-decodable_spelled h lawful = λ (name : GroupVersionResource) (e i : ℕ) (f : Field) (decodable : IsDecodable h.apis name e) (at_i : slice_get h.fields i ≡ Some f) (of_group : f.group ≡ name.group) (of_resource : f.resource ≡ name.resource) (by : f.since ≤ e).
+decodable_spelled h lawful = λ (name : GroupVersionResource) (e i : ℕ) (f : Field) (is_decodable : IsDecodable h.apis name e) (at_i : slice_get h.fields i ≡ Some f) (of_group : f.group ≡ name.group) (of_resource : f.resource ≡ name.resource) (by : f.since ≤ e).
+    let decodable : IsIntroduced h.apis name e × ¬ IsForgotten h.apis name e = (decodable_dated h.apis name e).0 is_decodable in
     let P : ApiEntry → Type 0 = λ x. IsKnownOf name e x × IsIntroduction x.change in
     let known : IsKnownOf name e decodable.0.1 = decodable.0.4.0 in
     let is : IsIntroduction decodable.0.1.change = decodable.0.4.1 in

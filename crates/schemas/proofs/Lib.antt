@@ -2,6 +2,8 @@ pub mod PlaceLemmas
 pub mod PreviousLemmas
 pub mod DecisionLemmas
 pub mod LawLemmas
+pub mod DecodableLemmas
 pub mod FieldLawLemmas
+pub mod RowLemmas
 pub mod FieldStabilityLemmas
 pub mod JoinLemmas

@@ -1,17 +1,21 @@
 -- What follows from the rules, for those who build on accepted histories.
-use Rattle.std.specs.Prelude.{ℕ, ◌≡◌, ◌↔◌, ◌+◌, ◌<◌, ◌≤◌, List, Some, Any, slice_get}
-use Rattle.fields.specs.Table.{AreApart}
+use Rattle.std.specs.Prelude.{ℕ, ◌≡◌, ◌↔◌, ◌+◌, ◌<◌, ◌≤◌, true, List, Some, Any, slice_get}
+use Rattle.fields.specs.Table.{AreApart, AreLawful}
 use Rattle.fields.specs.declared.field.Field.{Field}
 use Rattle.fields.specs.declared.field.Spell.{Spell}
+use Rattle.fields.specs.declared.table.FieldRow.{FieldRow}
 use Rattle.gate_spec.specs.Gates.{RisesInDate}
-use Rattle.lifecycle.specs.Entry.{GroupVersionResource, IsIntroduction, IsIntroduced, IsLive}
+use Rattle.lifecycle.specs.Entry.{GroupVersionResource, IsIntroduction, IsLive}
+use Rattle.lifecycle.specs.Tables.{cutoff as apis_by, decodable}
 use Rattle.lifecycle.specs.declared.entry.ApiEntry.{ApiEntry}
 use Rattle.schemas.specs.declared.array.Array.{Array}
 use Rattle.schemas.specs.Dated.{Dated}
-use Rattle.schemas.specs.ApiRules.{name_of, IsForgotten}
+use Rattle.schemas.specs.ApiRules.{name_of}
+use Rattle.schemas.specs.Cutoff.{fields_by, spells_by}
 use Rattle.schemas.specs.FieldRules.{IsSpelledThroughout}
 use Rattle.schemas.specs.Pairs.{IsSpelling, AreOfOneVersion as AreSpellingsOfOneVersion}
 use Rattle.schemas.specs.Places.{Each}
+use Rattle.schemas.specs.Rows.{SpellFields, AreOfSameFields}
 use Rattle.schemas.specs.SpellRules.{SpellsPairOnce}
 use Rattle.schemas.specs.Rules.{IsAccepted, IsUnbroken, checks, IsFirstFault}
 
@@ -56,9 +60,9 @@ pub record ArePairsKept (h : Dated) : Type 0 where
   pub of_fields : Each (IsSpelledThroughout h.apis h.spells) h.fields
   pub of_spellings : Each (SpellsPairOnce h.apis h.fields) h.spells
 
--- objects in the version are read at the release: it is introduced and not forgotten
+-- objects in the version are read at the release
 abbrev pub IsDecodable : List ApiEntry → GroupVersionResource → ℕ → Type 0
-IsDecodable apis name e = IsIntroduced apis name e × ¬ IsForgotten apis name e
+IsDecodable apis name e = decodable (apis_by apis e) name ≡ true
 
 -- a version that is live at a release is decodable from it up to three releases later
 abbrev pub LiveStaysDecodable : List ApiEntry → Type 0
@@ -76,3 +80,16 @@ DecodableIsSpelled h = (name : GroupVersionResource) (e i : ℕ) (f : Field) →
 -- two spellings of one version have paths apart
 abbrev pub PathsAreApart : List Spell → Type 0
 PathsAreApart spells = (i j : ℕ) (s t : Spell) → i < j → slice_get spells i ≡ Some s → slice_get spells j ≡ Some t → AreSpellingsOfOneVersion s t → AreApart s.path t.path
+
+-- the rows of a version at a release are lawful
+abbrev pub RowsAreLawful : Dated → Type 0
+RowsAreLawful h = (name : GroupVersionResource) (e : ℕ) (rows : List FieldRow) → SpellFields (fields_by h.fields e) (spells_by h.spells e) name rows → AreLawful rows
+
+-- in a version that is decodable at a release, each field of its resource that is there by then has a row
+abbrev pub EachFieldHasRow : Dated → Type 0
+EachFieldHasRow h = (name : GroupVersionResource) (e i : ℕ) (f : Field) (rows : List FieldRow) → IsDecodable h.apis name e → SpellFields (fields_by h.fields e) (spells_by h.spells e) name rows → slice_get h.fields i ≡ Some f → f.group ≡ name.group → f.resource ≡ name.resource → f.since ≤ e → Any (λ row. row.id ≡ f.id) rows
+
+-- two versions of a resource that are decodable at a release have rows of the same fields
+abbrev pub RowsAreAlike : Dated → Type 0
+RowsAreAlike h = (name other : GroupVersionResource) (e : ℕ) (rows others : List FieldRow) → name.group ≡ other.group → name.resource ≡ other.resource → IsDecodable h.apis name e → IsDecodable h.apis other e
+    → SpellFields (fields_by h.fields e) (spells_by h.spells e) name rows → SpellFields (fields_by h.fields e) (spells_by h.spells e) other others → AreOfSameFields rows others

@@ -1,5 +1,5 @@
 -- The rows of a version's table: a row for each field of its resource, as the version spells it.
-use Rattle.std.specs.Prelude.{◌≡◌, ◌↔◌, ℕ, List, Any, Contains, IfSome, IsTrue}
+use Rattle.std.specs.Prelude.{◌≡◌, ◌↔◌, ℕ, List, map, All, Any, Contains, IfSome, IsTrue}
 use Rattle.fields.specs.Table.{IdsRise}
 use Rattle.fields.specs.declared.field.Field.{Field}
 use Rattle.fields.specs.declared.field.Spell.{Spell}
@@ -20,7 +20,18 @@ pub record IsSpelledAs (f : Field) (s : Spell) (row : FieldRow) : Type 0 where
 abbrev pub IsSpelledRow : List Field → List Spell → GroupVersionResource → FieldRow → Type 0
 IsSpelledRow fields spells name row = Any (λ f. Any (λ s. IsSpelling f name s × IsSpelledAs f s row) spells) fields
 
--- the same, and the row is on where no gate guards the field, or the gate is on
+-- the rows are those of the fields that the version spells, one for each, in order
+pub record SpellFields (fields : List Field) (spells : List Spell) (name : GroupVersionResource) (rows : List FieldRow) : Type 0 where
+  pub order : IdsRise rows
+  pub each : All (IsSpelledRow fields spells name) rows
+  pub whole : (f : Field) (s : Spell) → Contains fields f → Contains spells s → IsSpelling f name s → Any (λ row. row.id ≡ f.id) rows
+
+-- the rows are of the same fields
+pub record AreOfSameFields (rows others : List FieldRow) : Type 0 where
+  pub ids : map (λ row. row.id) rows ≡ map (λ row. row.id) others
+  pub types : map (λ row. row.ty) rows ≡ map (λ row. row.ty) others
+
+-- the same, where the row is on if no gate guards the field, or the gate is on
 abbrev pub IsRow : (List ℕ → Type 0) → List Field → List Spell → GroupVersionResource → FieldRow → Type 0
 IsRow IsOn fields spells name row = Any (λ f. Any (λ s. IsSpelling f name s × IsSpelledAs f s row × (IsTrue row.on ↔ IfSome f.gate IsOn)) spells) fields
 

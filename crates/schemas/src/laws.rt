@@ -1,6 +1,6 @@
 //! What follows from the rules, each as the contract of a function that does nothing.
 ghost use Rattle.schemas.specs.Rules.{IsAccepted};
-ghost use Rattle.schemas.specs.Laws.{GatesRise, IsIntroducedOnce, KindsStayLive, HasOneFirstFault, IsJoined, ArePairsKept, LiveStaysDecodable, DecodableIsSpelled, PathsAreApart};
+ghost use Rattle.schemas.specs.Laws.{GatesRise, IsIntroducedOnce, KindsStayLive, HasOneFirstFault, IsJoined, ArePairsKept, LiveStaysDecodable, DecodableIsSpelled, PathsAreApart, RowsAreLawful, EachFieldHasRow, RowsAreAlike};
 ghost use Rattle.std.specs.Prelude.{◌↔◌};
 ghost use Rattle.schemas.specs.Pairs.{AreSpelledOnce};
 
@@ -67,6 +67,28 @@ pub fn live_version_stays_decodable(h: &History)
 /// (by HR6, HR11 and HR14).
 pub fn decodable_version_is_spelled(h: &History)
     ensures { IsAccepted h.now → DecodableIsSpelled h.now }
+{
+    let _history = h;
+}
+
+/// The rows of a version at a release are lawful: at most 64, with paths apart, and forms and defaults that fit (by HR11,
+/// HR15 and HR16).
+pub fn rows_are_lawful(h: &History)
+    ensures { IsAccepted h.now → RowsAreLawful h.now }
+{
+    let _gates = &h.gates;
+}
+
+/// In a version that is decodable at a release each field of its resource that is there by then has a row (by HR14).
+pub fn each_field_has_row(h: &History)
+    ensures { IsAccepted h.now → EachFieldHasRow h.now }
+{
+    let _history = h;
+}
+
+/// The versions of a resource that are decodable at a release have rows of the same fields (by HR11 and HR14).
+pub fn rows_are_alike(h: &History)
+    ensures { IsAccepted h.now → RowsAreAlike h.now }
 {
     let _history = h;
 }
