@@ -11,14 +11,14 @@ use Rattle.lifecycle.specs.Entry.{GroupVersionResource, subject, IsIntroduction,
 use Rattle.lifecycle.specs.declared.entry.ApiEntry.{ApiEntry}
 use Rattle.schemas.specs.ApiRules.{name_of, IsForgetting, IsForgotten}
 use Rattle.field_rules.specs.Keys.{gate_of, resource_of_api, version_of_api, resource_of_field, version_of_spell}
-use Rattle.field_rules.specs.Listing.{lent_in, listed_at, IsListing, HasLent, EachLent}
+use Rattle.listing.specs.Listing.{Listed, lent_in, listed_at, IsListing, HasLent, EachLent}
 use Rattle.schemas.specs.Pairs.{IntroducesVersionOf, IsPair, IsOfField, IsOfVersion, IsSpelling, SpellsPair}
 use Rattle.field_rules.specs.Answers.{IsSpelledIn, PairsWith}
 use Rattle.schemas.specs.Dated.{Dated}
 use Rattle.schemas.specs.SpellRules.{FitsType}
 use Rattle.basis.proofs.NameLemmas.{same_parts}
-use Rattle.field_rules.proofs.NameLemmas.{parts_same}
-use Rattle.field_rules.proofs.ListingLemmas.{Listed, any_found, all_found}
+use Rattle.listing.proofs.NameLemmas.{parts_same}
+use Rattle.listing.proofs.ListingLemmas.{any_found, all_found}
 
 pub versioned_by : (xs ys : List ApiEntry) (m : Listed ApiEntry) (o : Option (Bor (Vec (Bor ApiEntry)))) (b : Bool) (p q g r : List ℕ) (by : ℕ) → IsListing resource_of_api xs m → xs ≡ ys → lent_in o ≡ listed_at m p q [] → p ≡ g → q ≡ r → (IsTrue b ↔ HasLent (λ x. IsIntroduction x.change × (x.since ≤ by)) o) → IsTrue b ↔ Any (λ x. IntroducesVersionOf g r x × (x.since ≤ by)) ys
 versioned_by xs ys m o b p q g r by listing same is at_g at_r test =

@@ -1,5 +1,4 @@
-pub mod NameLemmas
-pub mod ListingLemmas
+pub mod PassLemmas
 pub mod IndexLemmas
 pub mod TestLemmas
 pub mod FaultLemmas

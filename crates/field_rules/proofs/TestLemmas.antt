@@ -11,12 +11,13 @@ use Rattle.fields.specs.declared.field.Field.{Field}
 use Rattle.fields.specs.declared.field.Spell.{Spell}
 use Rattle.schemas.specs.FieldRules.{is_of_resource, AreOneField}
 use Rattle.field_rules.specs.Keys.{resource_of_field, version_of_spell}
-use Rattle.field_rules.specs.Listing.{lent_in, listed_at, IsListing, HasLent, EachLent}
+use Rattle.listing.specs.Listing.{Listed, lent_in, listed_at, IsListing, HasLent, EachLent}
 use Rattle.schemas.specs.Pairs.{AreOfOneVersion, AreOfOnePair}
 use Rattle.fields.specs.Table.{AreApart}
 use Rattle.basis.proofs.NameLemmas.{same_parts}
-use Rattle.field_rules.proofs.NameLemmas.{parts_same}
-use Rattle.field_rules.proofs.ListingLemmas.{Listed, of_name, none_of_all, any_found, all_found}
+use Rattle.listing.proofs.NameLemmas.{parts_same}
+use Rattle.listing.proofs.ListingLemmas.{of_name, any_found, all_found}
+use Rattle.field_rules.proofs.PassLemmas.{none_of_all}
 use mathlib.Core.Bool.{not}
 
 all_of_none : {X : Type 0} (P : X → Type 0) (xs : List X) → ¬ Any P xs → All (λ x. ¬ P x) xs

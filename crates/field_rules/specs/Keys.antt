@@ -4,7 +4,7 @@ use Rattle.fields.specs.declared.field.Field.{Field}
 use Rattle.fields.specs.declared.field.Spell.{Spell}
 use Rattle.gate_spec.specs.declared.entry.GateEntry.{GateEntry}
 use Rattle.lifecycle.specs.declared.entry.ApiEntry.{ApiEntry}
-use Rattle.field_rules.specs.Listing.{Name}
+use Rattle.listing.specs.Listing.{Name}
 
 abbrev pub name_of : List ℕ → List ℕ → List ℕ → Name
 name_of a b c = record { first = a; second = b; third = c }

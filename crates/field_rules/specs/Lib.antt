@@ -1,5 +1,4 @@
 pub mod Lists
-pub mod Listing
 pub mod Keys
 pub mod IndexFields
 pub mod Answers

@@ -2,7 +2,7 @@
 ghost use Rattle.std.specs.Prelude.{◌↔◌, ◌≤◌, ◌≡◌, IsTrue, max, length};
 ghost use Rattle.lifecycle.specs.Entry.{IsIntroduction};
 ghost use Rattle.schemas.specs.ApiRules.{IsForgetting};
-ghost use Rattle.field_rules.specs.Listing.{lent_in, HasLent, EachLent};
+ghost use Rattle.listing.specs.Listing.{lent_in, HasLent, EachLent};
 ghost use Rattle.fields.specs.Table.{AreApart};
 ghost use Rattle.schemas.specs.SpellRules.{FitsType};
 

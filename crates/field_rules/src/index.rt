@@ -4,7 +4,7 @@ ghost use Rattle.lifecycle.specs.Entry.{subject, IsIntroduction};
 ghost use Rattle.schemas.specs.ApiRules.{name_of, IsForgotten};
 ghost use Rattle.schemas.specs.Rules.{first_of};
 ghost use Rattle.field_rules.specs.Answers.{IsSpelledIn, PairsWith};
-ghost use Rattle.field_rules.specs.Listing.{HasLent, EachLent};
+ghost use Rattle.listing.specs.Listing.{HasLent, EachLent};
 ghost use Rattle.schemas.specs.Pairs.{IntroducesVersionOf, IsPair, IsOfField, IsOfVersion, IsSpelling, IsPaired};
 ghost use Rattle.field_rules.specs.Lists.{lists};
 ghost use Rattle.schemas.specs.SpellRules.{FitsType};
@@ -14,11 +14,11 @@ use crate::entries::{
     has_introduction_for, has_spelling, is_introduction,
 };
 use crate::keys::{list_fields, list_gates, list_resources, list_spells, list_versions};
-use crate::listing::{Listing, listed};
 use basis::Memory;
 use fields::{Field, Spell};
 use gate_spec::GateEntry;
 use lifecycle::ApiEntry;
+use listing::{Listing, listed};
 use minor_version::{Minor, Text};
 use std::alloc::Global;
 use std::marker::Model;

@@ -4,14 +4,14 @@ ghost use Rattle.gate_spec.specs.declared.entry.GateEntry.{GateEntry as TheGate}
 ghost use Rattle.lifecycle.specs.declared.entry.ApiEntry.{ApiEntry as TheApi};
 ghost use Rattle.fields.specs.declared.field.Field.{Field as TheField};
 ghost use Rattle.fields.specs.declared.field.Spell.{Spell as TheSpell};
-ghost use Rattle.field_rules.specs.Listing.{IsListing};
+ghost use Rattle.listing.specs.Listing.{IsListing};
 ghost use Rattle.field_rules.specs.Keys.{gate_of, resource_of_api, version_of_api, resource_of_field, version_of_spell};
 
-use crate::listing::{Listing, add};
 use basis::Memory;
 use fields::{Field, Spell};
 use gate_spec::GateEntry;
 use lifecycle::ApiEntry;
+use listing::{Listing, add};
 use std::alloc::Global;
 use std::collections::BTreeMap;
 

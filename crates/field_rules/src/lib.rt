@@ -5,7 +5,6 @@ mod broken;
 mod entries;
 mod index;
 mod keys;
-mod listing;
 mod on_fields;
 mod on_spellings;
 mod paths;

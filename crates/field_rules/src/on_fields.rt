@@ -5,14 +5,14 @@ ghost use Rattle.schemas.specs.Places.{FindsFirst};
 ghost use Rattle.schemas.specs.Rules.{first_of};
 ghost use Rattle.schemas.specs.FieldRules.{is_of_resource, AreOneField, begins_at, BelongsToResource, IsRequiredFairly, HasKnownGate, IsSpelledThroughout};
 ghost use Rattle.field_rules.specs.Keys.{resource_of_field};
-ghost use Rattle.field_rules.specs.Listing.{IsListing};
+ghost use Rattle.listing.specs.Listing.{IsListing};
 
 use crate::entries::{count, has_field};
 use crate::index::Index;
 use crate::keys::take_field;
-use crate::listing::{Listing, listed};
 use basis::Memory;
 use fields::Field;
+use listing::{Listing, listed};
 use minor_version::Minor;
 use std::alloc::Global;
 use std::collections::BTreeMap;

@@ -3,7 +3,7 @@ ghost use Rattle.std.specs.Prelude.{◌≡◌, ◌↔◌, List, IsTrue, IfOk, Al
 ghost use Rattle.fields.specs.declared.field.Spell.{Spell as TheSpell};
 ghost use Rattle.schemas.specs.Places.{FindsFirst};
 ghost use Rattle.field_rules.specs.Keys.{version_of_spell};
-ghost use Rattle.field_rules.specs.Listing.{IsListing};
+ghost use Rattle.listing.specs.Listing.{IsListing};
 ghost use Rattle.schemas.specs.Pairs.{AreOfOneVersion, AreOfOnePair};
 ghost use Rattle.fields.specs.Table.{AreApart};
 ghost use Rattle.schemas.specs.SpellRules.{SpellsPairOnce, HasOwnPath, FitsField};
@@ -11,10 +11,10 @@ ghost use Rattle.schemas.specs.SpellRules.{SpellsPairOnce, HasOwnPath, FitsField
 use crate::entries::{has_spelling, is_apart_from};
 use crate::index::Index;
 use crate::keys::take_spell;
-use crate::listing::{Listing, listed};
 use crate::paths::begins_free;
 use basis::Memory;
 use fields::Spell;
+use listing::{Listing, listed};
 use std::alloc::Global;
 use std::collections::BTreeMap;
 

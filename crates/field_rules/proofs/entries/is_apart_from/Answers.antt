@@ -4,9 +4,9 @@ use Rattle.std.specs.Global.{Vec}
 use Rattle.std.proofs.lemmas.Iterator.{cases_from_all, YieldsList-from_slice}
 use borrow.Author.Tests.{tests}
 use Rattle.fields.specs.declared.field.Spell.{Spell}
-use Rattle.field_rules.specs.Listing.{EachLent}
+use Rattle.listing.specs.Listing.{EachLent}
 use Rattle.fields.specs.Table.{AreApart}
-use Rattle.field_rules.proofs.ListingLemmas.{each_told}
+use Rattle.field_rules.proofs.PassLemmas.{each_told}
 use Rattle.field_rules.proofs.entries.is_apart_from.Goals as goal
 
 pub returns-in-Some : goal.returns-in-Some

@@ -1,5 +1,5 @@
 use Rattle.std.proofs.Common.{take}
-use Rattle.field_rules.specs.Listing.{IsListing}
+use Rattle.listing.specs.Listing.{IsListing}
 use Rattle.field_rules.specs.Keys.{resource_of_api}
 use Rattle.field_rules.proofs.keys.list_resources.Given as goal
 

@@ -1,6 +1,6 @@
 use Rattle.std.proofs.Common.{take}
 use Rattle.field_rules.specs.Keys.{version_of_spell}
-use Rattle.field_rules.specs.Listing.{IsListing}
+use Rattle.listing.specs.Listing.{IsListing}
 use Rattle.schemas.specs.SpellRules.{SpellsPairOnce}
 use Rattle.schemas.proofs.PlaceLemmas.{EachBelow}
 use Rattle.field_rules.proofs.on_spellings.first_unpaired.Given as goal

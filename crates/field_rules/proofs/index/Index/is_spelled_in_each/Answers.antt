@@ -5,8 +5,8 @@ use Rattle.std.specs.Global.{Vec}
 use Rattle.std.proofs.lemmas.Bool.{false≢true}
 use Rattle.lifecycle.specs.declared.entry.ApiEntry.{ApiEntry}
 use Rattle.field_rules.specs.Answers.{IsSpelledIn}
-use Rattle.field_rules.specs.Listing.{EachLent}
-use Rattle.field_rules.proofs.ListingLemmas.{not_all, below_whole}
+use Rattle.listing.specs.Listing.{EachLent}
+use Rattle.field_rules.proofs.PassLemmas.{not_all, below_whole}
 use Rattle.field_rules.proofs.index.Index.is_spelled_in_each.Goals as goal
 
 pub returns-then-not-is_spelled_in : goal.returns-then-not-is_spelled_in

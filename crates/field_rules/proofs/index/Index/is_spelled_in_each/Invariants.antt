@@ -1,7 +1,7 @@
 use Rattle.std.specs.Borrow.{Bor}
 use Rattle.lifecycle.specs.declared.entry.ApiEntry.{ApiEntry}
 use Rattle.field_rules.specs.Answers.{IsSpelledIn}
-use Rattle.field_rules.proofs.ListingLemmas.{AllBelow}
+use Rattle.field_rules.proofs.PassLemmas.{AllBelow}
 use Rattle.field_rules.proofs.index.Index.is_spelled_in_each.Given as goal
 
 abbrev pub invariant-loop-entry : goal.invariant-loop-entry

@@ -6,6 +6,10 @@ use Rattle.std.specs.Borrow.{Bor}
 use Rattle.std.specs.Global.{Vec}
 use Rattle.basis.specs.NameMap.{value_at, is_same_name}
 
+-- a listing, as contracts see it
+abbrev pub Listed : Type 0 → Type 0
+Listed E = BTreeMap (Bor (List ℕ) × Bor (List ℕ) × Bor (List ℕ)) (Vec (Bor E))
+
 -- the entries that are lent
 abbrev pub lent : {E : Type 0} → List (Bor E) → List E
 lent items = map (λ b. b.now) items
@@ -14,7 +18,7 @@ abbrev pub lent_in : {E : Type 0} → Option (Bor (Vec (Bor E))) → List E
 lent_in items = option_map_or (λ v. lent v.now.items) items []
 
 -- the entries listed at the name with these parts
-abbrev pub listed_at : {E : Type 0} → BTreeMap (Bor (List ℕ) × Bor (List ℕ) × Bor (List ℕ)) (Vec (Bor E)) → List ℕ → List ℕ → List ℕ → List E
+abbrev pub listed_at : {E : Type 0} → Listed E → List ℕ → List ℕ → List ℕ → List E
 listed_at m a b c = option_map_or (λ v. lent v.items) (value_at m a b c) []
 
 -- a name of three parts
@@ -24,7 +28,7 @@ pub record Name : Type 0 where
   pub third : List ℕ
 
 -- at each name the entries of that name are listed, in order
-abbrev pub IsListing : {E : Type 0} → (E → Name) → List E → BTreeMap (Bor (List ℕ) × Bor (List ℕ) × Bor (List ℕ)) (Vec (Bor E)) → Type 0
+abbrev pub IsListing : {E : Type 0} → (E → Name) → List E → Listed E → Type 0
 IsListing {E} name entries m = (a b c : List ℕ) → listed_at m a b c ≡ filter (λ x. is_same_name (name x).first (name x).second (name x).third a b c) entries
 
 -- one of the entries that are lent is so

@@ -1,19 +1,18 @@
 -- How a listing grows by an entry, and what it says of all entries.
-use Rattle.std.proofs.Common.{ℕ, zero, suc, ◌≡◌, ◌+◌, ◌<◌, ◌≤◌, ◌↔◌, ◌⊎◌, List, [], ◌∷◌, ◌++◌, Bool, true, false, Option, Some, None, cond, length, refl, sym, ap, subst, ◌∙◌, arith, inl, inr, get_or}
-use Rattle.std.specs.Prelude.{filter, All, Any, IsTrue, MatchBool}
+use Rattle.std.proofs.Common.{ℕ, zero, suc, ◌≡◌, ◌<◌, ◌↔◌, ◌⊎◌, List, [], ◌∷◌, ◌++◌, Bool, true, false, Option, Some, None, cond, length, refl, sym, ap, subst, ◌∙◌, arith, inl, inr, get_or, Result, Ok, Err, OnOk}
+use Rattle.std.specs.Prelude.{filter, All, Any}
 use Rattle.std.specs.Option.{option_map_or}
-use Rattle.std.specs.BTreeMap.{BTreeMap}
 use Rattle.std.specs.Borrow.{Bor}
 use Rattle.std.specs.Global.{Vec}
-use Rattle.std.specs.List.{AllWithin, HoldsAt}
 use Rattle.std.proofs.lemmas.Bool.{false≢true}
-use Rattle.std.proofs.Math.Nat.{eq-or-lt_of_le}
-use Rattle.std.proofs.lemmas.Option.{slice_get_read, get_or_from_slice_get}
-use Rattle.schemas.proofs.PreviousLemmas.{entry_at}
 use Rattle.std.proofs.lemmas.List.Elements.{All-cons, All-nil}
 use Rattle.basis.specs.NameMap.{is_same_name}
-use Rattle.field_rules.specs.Listing.{lent, lent_in, listed_at, Name, IsListing, HasLent, EachLent}
-use Rattle.field_rules.proofs.NameLemmas.{parts_same}
+use Rattle.listing.specs.Listing.{Listed, lent, lent_in, listed_at, Name, IsListing, HasLent, EachLent}
+use Rattle.listing.proofs.NameLemmas.{parts_same}
+
+pub on_ok : {T E : Type 0} (r : Result T E) {P Q : Type 0} → (P → Q) → OnOk r P → OnOk r Q
+on_ok (Ok x) f h = f h
+on_ok (Err e) f h = h
 
 abbrev pub listed_in : {E : Type 0} → Option (Vec (Bor E)) → List E
 listed_in o = option_map_or (λ v. lent v.items) o []
@@ -27,7 +26,7 @@ added true old mid new v x p q here = ap listed_in p ∙ here refl
 added false old mid new v x p q here = ap listed_in (p ∙ q)
 
 -- at one name one list
-pub moved : {E : Type 0} (m : BTreeMap (Bor (List ℕ) × Bor (List ℕ) × Bor (List ℕ)) (Vec (Bor E))) (a b c x y z : List ℕ) → is_same_name a b c x y z ≡ true → listed_at m a b c ≡ listed_at m x y z
+pub moved : {E : Type 0} (m : Listed E) (a b c x y z : List ℕ) → is_same_name a b c x y z ≡ true → listed_at m a b c ≡ listed_at m x y z
 moved m a b c x y z same =
     let (p, q, r) = parts_same a b c x y z same in
     ap (λ (n : List ℕ). listed_at m n b c) p ∙ ap (λ (n : List ℕ). listed_at m x n c) q ∙ ap (λ (n : List ℕ). listed_at m x y n) r
@@ -108,9 +107,6 @@ each_lent : {E : Type 0} (P : E → Type 0) (o : Option (Bor (Vec (Bor E)))) →
 each_lent P None = (λ h. All-nil P, λ all. tt)
 each_lent P (Some v) = all_lent P v.now.items
 
-abbrev pub Listed : Type 0 → Type 0
-Listed E = BTreeMap (Bor (List ℕ) × Bor (List ℕ) × Bor (List ℕ)) (Vec (Bor E))
-
 -- the entries of this name
 abbrev pub of_name : {E : Type 0} → (E → Name) → List ℕ → List ℕ → List ℕ → E → Bool
 of_name name a b c x = is_same_name (name x).first (name x).second (name x).third a b c
@@ -128,37 +124,3 @@ all_found {E} P Q name entries m o a b c listing is same =
     let all = all_filtered P Q (of_name name a b c) entries same in
     let here = subst (λ (l : List E). EachLent P o ↔ All P l) (is ∙ listing a b c) (each_lent P o) in
     (λ h. all.0 (here.0 h), λ every. here.1 (all.1 every))
-
--- what a call of `all` tells of each item
-pub each_told : {X : Type 0} (Yes : X → Type 0) (xs : List X) (r : Bool) → MatchBool r (AllWithin Yes xs 0 (length xs)) ((k : ℕ) × (k < length xs) × HoldsAt (λ x. ¬ Yes x) xs k) → IsTrue r ↔ All Yes xs
-each_told {X} Yes xs true h = (λ t. λ (k : ℕ) (d : X) (within : k < length xs). h k d (omega arith) within, λ all. refl)
-each_told Yes xs false h = (λ t. absurd (false≢true t), λ all. absurd (let d = (entry_at xs h.0 h.1).0 in h.2 d (all h.0 d h.1)))
-
--- what a call of `any` tells of some item
-pub some_told : {X : Type 0} (Yes : X → Type 0) (xs : List X) (r : Bool) → MatchBool r ((k : ℕ) × (k < length xs) × HoldsAt Yes xs k) (AllWithin (λ x. ¬ Yes x) xs 0 (length xs)) → IsTrue r ↔ Any Yes xs
-some_told {X} Yes xs true h = (λ t. let d = entry_at xs h.0 h.1 in (h.0, d.0, h.1, get_or_from_slice_get xs h.0 d.0 d.0 d.1, subst Yes (get_or_from_slice_get xs h.0 d.0 d.0 d.1) (h.2 d.0)), λ any. refl)
-some_told {X} Yes xs false h = (λ t. absurd (false≢true t), λ any. absurd (let k : any.0 < length xs = any.2 in h any.0 any.1 (omega arith) k (subst Yes (sym any.3) any.4)))
-
--- the fact holds of each of the first n items
-abbrev pub AllBelow : {X : Type 0} → (X → Type 0) → List X → ℕ → Type 0
-AllBelow {X} P xs n = (k : ℕ) (d : X) → k < n → P (get_or xs k d)
-
-pub below_none : {X : Type 0} (P : X → Type 0) (xs : List X) → AllBelow P xs 0
-below_none {X} P xs = λ (k : ℕ) (d : X) (low : k < 0). absurd (omega arith)
-
-pub below_next : {X : Type 0} (P : X → Type 0) (xs : List X) (n : ℕ) (x : X) → n < length xs → x ≡ get_or xs n x → AllBelow P xs n → P x → AllBelow P xs (n + 1)
-below_next {X} P xs n x within is before here = λ (k : ℕ) (d : X) (low : k < n + 1).
-    let at_most : k ≤ n = omega arith in
-    elim (eq-or-lt_of_le at_most) [
-      | inr less ↦ before k d less
-      | inl same ↦ subst (λ (m : ℕ). P (get_or xs m d)) (sym same) (subst P (sym (get_or_from_slice_get xs n x d (slice_get_read xs (length xs) n x refl within is))) here)
-    ]
-
-pub below_whole : {X : Type 0} (P : X → Type 0) (xs : List X) (n : ℕ) → length xs ≤ n → AllBelow P xs n → All P xs
-below_whole {X} P xs n whole before = λ (k : ℕ) (d : X) (within : k < length xs). before k d (omega arith)
-
-pub not_all : {X : Type 0} (P : X → Type 0) (xs : List X) (n : ℕ) (x : X) → n < length xs → x ≡ get_or xs n x → ¬ P x → ¬ All P xs
-not_all P xs n x within is fails = λ all. fails (subst P (sym is) (all n x within))
-
-pub none_of_all : {X : Type 0} (P : X → Type 0) (xs : List X) → All (λ x. ¬ P x) xs → ¬ Any P xs
-none_of_all P xs all = λ any. all any.0 any.1 any.2 (subst P (sym any.3) any.4)

@@ -1,14 +1,18 @@
 //! Entries listed by names of three parts, so that those of one name are found without a pass over all.
+#![tactic(auto)]
+
 ghost use Rattle.std.specs.Prelude.{◌≡◌, ◌++◌, ℕ, List, [], ◌∷◌, OnOk, cond};
 ghost use Rattle.basis.specs.NameMap.{is_same_name};
-ghost use Rattle.field_rules.specs.Listing.{lent_in, listed_at};
+ghost use Rattle.listing.specs.Listing.{lent_in, listed_at};
 
-use basis::Memory;
+use basis::{Memory, NameMap, put};
 use std::alloc::Global;
-use std::collections::BTreeMap;
+
+#[cfg(test)]
+mod tests;
 
 /// Entries listed by names of three parts.
-pub type Listing<'a, E> = BTreeMap<(&'a [u8], &'a [u8], &'a [u8]), Vec<&'a E>>;
+pub type Listing<'a, E> = NameMap<'a, Vec<&'a E>>;
 
 /// The entries listed at the name, if there are any.
 pub fn listed<'m, 'a, E>(
@@ -22,7 +26,7 @@ pub fn listed<'m, 'a, E>(
     listing.get(&(a, b, c))
 }
 
-/// Lists one more entry at the name.
+/// Lists one more entry at the name, behind those that are listed there.
 pub fn add<'a, E>(
     alloc: Global,
     listing: &mut Listing<'a, E>,
@@ -38,11 +42,7 @@ pub fn add<'a, E>(
         None => Vec::new(alloc),
     };
     match items.push(entry) {
-        Ok(()) => {}
-        Err(_) => return Err(Memory),
-    }
-    match listing.insert((a, b, c), items) {
-        Ok(_) => Ok(()),
+        Ok(()) => put(listing, a, b, c, items),
         Err(_) => Err(Memory),
     }
 }
