@@ -1,5 +1,5 @@
 -- A binary search by name among what rises by name.
-use Rattle.std.proofs.Common.{◌≡◌, ◌↔◌, Contains, ◌⊎◌, inl, inr, ℕ, ◌+◌, ◌<◌, Ordering, Less, Equal, Greater, List, [], ◌∷◌, All, map, get_or, Ok, Err, refl, sym, ◌∙◌, ap, arith}
+use Rattle.std.proofs.Common.{◌≡◌, ◌↔◌, Contains, ◌⊎◌, inl, inr, ℕ, ◌+◌, ◌<◌, Ordering, Less, Equal, Greater, List, [], ◌∷◌, All, Any, Bool, map, get_or, Ok, Err, refl, sym, ◌∙◌, ap, arith}
 use Rattle.std.specs.Ordering.{nat_cmp, is_lt, ordering_reverse}
 use Rattle.std.specs.List.{AllPairs, AllByRecursion}
 use Rattle.std.specs.List.Sorted.{IsStrictlySortedBy, IsSortedBy, IsBinarySearchResult}
@@ -85,3 +85,25 @@ module _ {X : Type 0} (name : X → List ℕ) where
       let same : x ≡ y = same_head x y xs ys a b ((h x).0 (Contains-append_left (x ∷ []) xs x (Contains-push [] x))) ((h y).1 (Contains-append_left (y ∷ []) ys y (Contains-push [] y))) in
       let rest : xs ≡ ys = one_in_order xs ys (tail_rises x xs a) (tail_rises y ys b) (λ z. (tail_in x y xs ys z same a (h z).0, tail_in y x ys xs z (sym same) b (h z).1)) in
       ap (λ w. w ∷ xs) same ∙ ap (λ ws. y ∷ ws) rest
+
+  -- what rises by name has each name once
+  one_named : (xs : List X) (x y : X) → IsStrictlySortedBy (slice_cmp nat_cmp) (map name xs) → Contains xs x → Contains xs y → name x ≡ name y → x ≡ y
+  one_named [] x y rise h k same = absurd (let below : h.0 < 0 = h.1 in omega arith)
+  one_named (z ∷ zs) x y rise h k same = elim (in_cons z zs x h) [
+    | inl first ↦ elim (in_cons z zs y k) [
+      | inl second ↦ sym first ∙ second
+      | inr later ↦ absurd (not_below_itself (name z) (name y) (ap name first ∙ same) (above_head z zs y rise later))
+    ]
+    | inr there ↦ elim (in_cons z zs y k) [
+      | inl second ↦ absurd (not_below_itself (name z) (name x) (ap name second ∙ sym same) (above_head z zs x rise there))
+      | inr later ↦ one_named zs x y (tail_rises z zs rise) there later same
+    ]
+  ]
+
+  -- where a value is found at the name, it is the only one
+  pub only_value : (value : X → Bool) (xs : List X) (key : List ℕ) (v w : Bool) → IsStrictlySortedBy (slice_cmp nat_cmp) (map name xs) → Any (λ x. (name x ≡ key) × (value x ≡ v)) xs → Any (λ x. (name x ≡ key) × (value x ≡ w)) xs → v ≡ w
+  only_value value xs key v w rise one other =
+      sym one.4.1 ∙ ap value (one_named xs one.1 other.1 rise (one.0, one.2, one.3) (other.0, other.2, other.3) (one.4.0 ∙ sym other.4.0)) ∙ other.4.1
+
+  pub none_valued : (value : X → Bool) (xs : List X) (key : List ℕ) (v : Bool) → All (λ x. name x ≡ key → ⊥) xs → ¬ Any (λ x. (name x ≡ key) × (value x ≡ v)) xs
+  none_valued value xs key v none = λ any. none any.0 any.1 any.2 (ap name any.3 ∙ any.4.0)

@@ -1,4 +1,4 @@
-ghost use Rattle.std.specs.Prelude.{◌≡◌, ◌≢◌, Bool, IfSome, IfNone, Any, All, map};
+ghost use Rattle.std.specs.Prelude.{◌≡◌, ◌≢◌, ◌↔◌, Bool, true, IsTrue, IfSome, IfNone, Any, All, map};
 ghost use Rattle.std.specs.Ordering.{nat_cmp};
 ghost use Rattle.std.specs.Cmp.Lexicographic.{slice_cmp};
 ghost use Rattle.std.specs.List.Sorted.{IsStrictlySortedBy};
@@ -64,6 +64,13 @@ impl GateValues {
         }
     }
 
+    /// Whether the gate with this name has the value true.
+    pub fn is_on(&self, name: &[u8]) -> bool
+        ensures { IsTrue result ↔ HasValue self.now name.now true }
+    {
+        is_row_on(&self.rows, name) || is_removed_on(&self.removed, name)
+    }
+
     /// The gates that the release knows, in byte order of their names.
     pub fn rows(&self) -> &[GateRow]
         ensures { result.now ≡ self.now.rows }
@@ -76,6 +83,26 @@ fn compared(name: &Text, bytes: &[u8]) -> Ordering
     ensures { result ≡ slice_cmp nat_cmp name.now bytes.now }
 {
     name.bytes().cmp(&bytes)
+}
+
+fn is_row_on(rows: &[GateRow], name: &[u8]) -> bool
+    requires { IsStrictlySortedBy (slice_cmp nat_cmp) (map (λ r. r.name) rows.now) }
+    ensures { IsTrue result ↔ Any (λ r. (r.name ≡ name.now) × (r.value ≡ true)) rows.now }
+{
+    match value_of_row(rows, name) {
+        Some(value) => value,
+        None => false,
+    }
+}
+
+fn is_removed_on(gates: &[RemovedGate], name: &[u8]) -> bool
+    requires { IsStrictlySortedBy (slice_cmp nat_cmp) (map (λ r. r.name) gates.now) }
+    ensures { IsTrue result ↔ Any (λ r. (r.name ≡ name.now) × (r.value ≡ true)) gates.now }
+{
+    match value_of_removed(gates, name) {
+        Some(value) => value,
+        None => false,
+    }
 }
 
 // The value of the row with this name, in rows that rise by name.

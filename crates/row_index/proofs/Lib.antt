@@ -1,0 +1,3 @@
+pub mod OnceLemmas
+pub mod MadeLemmas
+pub mod RowLemmas

@@ -1,0 +1,8 @@
+use Rattle.std.proofs.Common.{take}
+use Rattle.listing.specs.Listing.{IsListing}
+use Rattle.row_index.specs.Keys.{version_of}
+use Rattle.schemas.specs.Cutoff.{spells_by}
+use Rattle.row_index.proofs.keys.list_spells.Given as goal
+
+abbrev pub invariant-loop-entry : goal.invariant-loop-entry
+invariant-loop-entry l = IsListing version_of (spells_by (take l.entry-index l.entries) l.e) l.listing

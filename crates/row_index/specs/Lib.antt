@@ -1,0 +1,6 @@
+pub mod Keys
+pub mod Once
+pub mod Source
+pub mod Made
+pub mod Fields
+pub mod Laws

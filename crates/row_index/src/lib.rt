@@ -1,0 +1,13 @@
+//! An index of the fields and spellings that a release knows, from which the rows of a version's table are made
+//! without going over the whole history.
+#![tactic(auto)]
+
+mod index;
+mod keys;
+mod law;
+mod made;
+#[cfg(test)]
+mod tests;
+
+pub use index::RowIndex;
+pub use law::version_has_one_table;
