@@ -2,10 +2,10 @@ ghost use Rattle.release_view.specs.Served.{served_of};
 ghost use Rattle.release_view.specs.Views.{IsViewOf};
 ghost use Rattle.discovery.specs.Laws.{AreListed, ListsInOrder};
 
-use lifecycle::ApiEntry;
 use minor_version::Minor;
 use release_view::View;
 use runtime_config::Enabled;
+use schemas::History;
 
 /// The documents list exactly the groups with a served version, but the core group, each once and in order of bytes, and
 /// of each group exactly its served versions. Nothing is computed here; the law is the contract.
@@ -17,8 +17,8 @@ pub fn groups_are_exact(view: &View)
 
 /// The documents of a release list the versions of a group in order of stability, and the resources of a version in
 /// order of bytes.
-pub fn lists_are_in_order(view: &View, apis: &[ApiEntry], e: Minor, on: &Enabled)
-    requires { IsViewOf apis.now e view.now.gates on.now view.now }
+pub fn lists_are_in_order(view: &View, history: &History, e: Minor, on: &Enabled)
+    requires { IsViewOf history.now e view.now.gates on.now view.now }
     ensures { ListsInOrder view.now.versions }
 {
     let _view = view;

@@ -12,12 +12,10 @@ use Rattle.gate_spec.specs.Gates.{cutoff as gate_cutoff}
 use Rattle.gate_spec.specs.declared.entry.GateEntry.{GateEntry}
 use Rattle.lifecycle.specs.Entry.{GroupVersionResource}
 use Rattle.lifecycle.specs.Tables.{cutoff}
-use Rattle.lifecycle.specs.declared.entry.ApiEntry.{ApiEntry}
 use Rattle.runtime_config.specs.Config.{IsRuntimeText, IsTextFault as IsConfigFault, AreServed}
 use Rattle.runtime_config.specs.declared.fault.ConfigFault.{ConfigFault}
 use Rattle.runtime_config.specs.declared.fault.ConfigFault.TheVariants as config_fault
-use Rattle.release_view.specs.Known.{AreKnown}
-use Rattle.release_view.specs.Views.{Viewed}
+use Rattle.release_view.specs.Views.{Viewed, IsViewOf}
 use Rattle.discovery.specs.Groups.{group_list_page}
 use Rattle.schemas.specs.Dated.{Dated}
 use Rattle.schemas.specs.Rules.{IsAccepted, IsFirstFault, checks, first_of, last_of}
@@ -58,24 +56,26 @@ abbrev pub AtRelease : (ℕ → Status → List ℕ → Type 0) → Option (List
 AtRelease Work emulated h status.Flags text = IsVersionRefusal emulated h text ⊎ ((e : ℕ) × IsEmulated (first_of h) (last_of h) emulated e × Work e status.Flags text)
 AtRelease Work emulated h s text = (e : ℕ) × IsEmulated (first_of h) (last_of h) emulated e × Work e s text
 
--- the text is the group list of a release under a runtime configuration that it accepts, in compact JSON, and one line feed
-pub record IsGroupListLine (apis : List ApiEntry) (e : ℕ) (runtime text : List ℕ) : Type 0 where
-  pub valid : IsRuntimeText (cutoff apis e) runtime
+-- the text is the group list of a release under a runtime configuration that it accepts, with its gates by default, in compact JSON, and one line feed
+pub record IsGroupListLine (h : Dated) (e : ℕ) (runtime text : List ℕ) : Type 0 where
+  pub valid : IsRuntimeText (cutoff h.apis e) runtime
   pub on : List GroupVersionResource
-  pub served : AreServed (cutoff apis e) (pieces runtime) on
+  pub served : AreServed (cutoff h.apis e) (pieces runtime) on
+  pub gates : Gates
+  pub valued : AreGateValues (gate_cutoff h.gates e) (pieces []) gates
   pub view : Viewed
-  pub known : AreKnown (cutoff apis e) on view.versions
+  pub viewed : IsViewOf h e gates on view
   pub written : text ≡ compact_text (group_list_page view) ++ 10 ∷ []
 
 -- what `discover` is to answer for a release: the group list, or why it refuses the runtime configuration
-abbrev pub IsListingAt : List ApiEntry → ℕ → List ℕ → Status → List ℕ → Type 0
-IsListingAt apis e runtime status.Ok text = IsGroupListLine apis e runtime text
-IsListingAt apis e runtime status.Flags text = (f : ConfigFault) × (f ≢ config_fault.Memory) × IsConfigFault apis e runtime f × (text ≡ config_fault_line f)
-IsListingAt apis e runtime _ text = ⊥
+abbrev pub IsListingAt : Dated → ℕ → List ℕ → Status → List ℕ → Type 0
+IsListingAt h e runtime status.Ok text = IsGroupListLine h e runtime text
+IsListingAt h e runtime status.Flags text = (f : ConfigFault) × (f ≢ config_fault.Memory) × IsConfigFault h.apis e runtime f × (text ≡ config_fault_line f)
+IsListingAt h e runtime _ text = ⊥
 
 -- what `discover` is to answer on an accepted history, where no text stands for the empty one
 abbrev pub IsListing : Option (List ℕ) → Option (List ℕ) → Dated → Status → List ℕ → Type 0
-IsListing emulated runtime h s text = AtRelease (λ e. IsListingAt h.apis e (unwrap_or runtime [])) emulated h s text
+IsListing emulated runtime h s text = AtRelease (λ e. IsListingAt h e (unwrap_or runtime [])) emulated h s text
 
 -- what `gates` is to answer for a release: a line for each gate that its tables know, set by the text; or why it refuses the text
 abbrev pub IsGateListingAt : List GateEntry → ℕ → List ℕ → Status → List ℕ → Type 0

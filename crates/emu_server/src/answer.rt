@@ -70,7 +70,7 @@ fn listed_groups(
     requires viewed { IsEmulable (first_of accepted.now) (last_of accepted.now) e }
     requires valid { IsRuntimeText (cutoff accepted.now.apis e) runtime.now }
     requires served { AreServed (cutoff accepted.now.apis e) (pieces runtime.now) on }
-    ensures { IfOk result (λ a. (a.status ≡ Status.Ok) × IsGroupListLine accepted.now.apis e runtime.now (string_bytes a.text)) }
+    ensures { IfOk result (λ a. (a.status ≡ Status.Ok) × IsGroupListLine accepted.now e runtime.now (string_bytes a.text)) }
 {
     let text = group_list_line(alloc, accepted, e, runtime, on)?;
     Ok(Answer {
@@ -82,7 +82,7 @@ fn listed_groups(
 /// The group list of a release under a runtime configuration, or why it refuses the configuration.
 fn listing_at(alloc: Global, accepted: &Accepted, e: Minor, runtime: &str) -> Result<Answer, Memory>
     requires { IsEmulable (first_of accepted.now) (last_of accepted.now) e }
-    ensures { IfOk result (λ a. IsListingAt accepted.now.apis e runtime.now a.status (string_bytes a.text)) }
+    ensures { IfOk result (λ a. IsListingAt accepted.now e runtime.now a.status (string_bytes a.text)) }
 {
     let entries = accepted.history().apis.items();
     match enabled_at(alloc, entries, e, runtime.as_bytes()) {

@@ -7,7 +7,7 @@ ghost use Rattle.gate_spec.specs.Gates.{RisesInDate, cutoff as gate_cutoff};
 ghost use Rattle.lifecycle.specs.Tables.{cutoff};
 ghost use Rattle.minor_version.specs.Ranges.{IsEmulable};
 ghost use Rattle.runtime_config.specs.Config.{IsRuntimeText, AreServed};
-ghost use Rattle.release_view.specs.Known.{AreKnown};
+ghost use Rattle.release_view.specs.Views.{IsViewOf};
 ghost use Rattle.schemas.specs.Rules.{first_of, last_of};
 ghost use Rattle.emu_server.specs.Answer.{IsGroupListLine};
 ghost use Rattle.emu_server.specs.Lines.{config_fault_line};
@@ -45,7 +45,8 @@ fn viewed(
 ) -> Result<View, Memory>
     requires viewed { IsEmulable (first_of accepted.now) (last_of accepted.now) e }
     requires served { AreServed (cutoff accepted.now.apis e) (pieces runtime.now) on }
-    ensures { IfOk result (λ v. AreKnown (cutoff accepted.now.apis e) on v.versions) }
+    ensures values { IfOk result (λ v. AreGateValues (gate_cutoff accepted.now.gates e) (pieces []) v.gates) }
+    ensures view { IfOk result (λ v. IsViewOf accepted.now e v.gates on v) }
 {
     let gates = default_gates(alloc, accepted.history().gates.items(), e)?;
     texts_make_view(accepted, e, b"", &gates, runtime.as_bytes(), &on);
@@ -64,7 +65,7 @@ pub fn group_list_line(
     requires viewed { IsEmulable (first_of accepted.now) (last_of accepted.now) e }
     requires valid { IsRuntimeText (cutoff accepted.now.apis e) runtime.now }
     requires served { AreServed (cutoff accepted.now.apis e) (pieces runtime.now) on }
-    ensures { IfOk result (λ s. IsGroupListLine accepted.now.apis e runtime.now (string_bytes s)) }
+    ensures { IfOk result (λ s. IsGroupListLine accepted.now e runtime.now (string_bytes s)) }
 {
     let view = viewed(alloc, accepted, e, runtime, on)?;
     let value = group_list(alloc, &view)?;

@@ -7,13 +7,13 @@ use Rattle.basis.proofs.ElementLemmas.{Any-push_iff}
 use Rattle.lifecycle.specs.Entry.{GroupVersionResource, subject}
 use Rattle.lifecycle.specs.Tables.{decodable}
 use Rattle.lifecycle.specs.declared.entry.ApiEntry.{ApiEntry}
-use Rattle.release_view.specs.Known.{name_of, IsKnown, AreInPlace, Has, by_place}
+use Rattle.release_view.specs.Known.{Tables, name_of, IsKnown, AreInPlace, Has, by_place}
 use Rattle.release_view.specs.Parts.{IsGathered, Speaks}
 use Rattle.release_view.specs.declared.known.KnownVersion.{KnownVersion}
 use Rattle.release_view.proofs.KnownLemmas.{same_version, tied_known}
 use Rattle.release_view.proofs.ListLemmas.{any_of, witness, inserted, among_inserted}
 
-module _ (tables : List ApiEntry) (on_names : List GroupVersionResource) (first : List ApiEntry) (x : ApiEntry) where
+module _ (tables : Tables) (on_names : List GroupVersionResource) (first : List ApiEntry) (x : ApiEntry) where
   more : (name : GroupVersionResource) → Speaks (first ++ x ∷ []) name → Speaks first name ⊎ (subject x ≡ name)
   more name h = (Any-push_iff (λ y. subject y ≡ name) first x).0 h
 
@@ -24,19 +24,19 @@ module _ (tables : List ApiEntry) (on_names : List GroupVersionResource) (first 
   latest name h = (Any-push_iff (λ y. subject y ≡ name) first x).1 (inr h)
 
   -- an entry of a version that isn't read
-  pub gathered_same : (versions : List KnownVersion) → decodable tables (subject x) ≡ false → IsGathered tables on_names first versions → IsGathered tables on_names (first ++ x ∷ []) versions
+  pub gathered_same : (versions : List KnownVersion) → decodable tables.apis (subject x) ≡ false → IsGathered tables on_names first versions → IsGathered tables on_names (first ++ x ∷ []) versions
   gathered_same versions unread h = record {
     order = h.order;
     exact = λ v. (
       (λ there. let r = (h.exact v).0 there in (r.0, earlier (name_of v) r.1)),
       (λ known. elim (more (name_of v) known.1) [
         | inl before ↦ (h.exact v).1 (known.0, before)
-        | inr here ↦ absurd (both_ways (decodable tables (name_of v)) (ap (decodable tables) (sym here) ∙ unread) (known.0.decodes))
+        | inr here ↦ absurd (both_ways (decodable tables.apis (name_of v)) (ap (decodable tables.apis) (sym here) ∙ unread) (known.0.decodes))
       ]),
     );
     each = λ name speaks reads. elim (more name speaks) [
       | inl before ↦ h.each name before reads
-      | inr here ↦ absurd (both_ways (decodable tables name) (ap (decodable tables) (sym here) ∙ unread) reads)
+      | inr here ↦ absurd (both_ways (decodable tables.apis name) (ap (decodable tables.apis) (sym here) ∙ unread) reads)
     ];
   }
 
@@ -62,7 +62,7 @@ module _ (tables : List ApiEntry) (on_names : List GroupVersionResource) (first 
       ],
     )
 
-    is_each : (name : GroupVersionResource) → Speaks (first ++ x ∷ []) name → decodable tables name ≡ true → Has (insert_key by_place versions v) name
+    is_each : (name : GroupVersionResource) → Speaks (first ++ x ∷ []) name → decodable tables.apis name ≡ true → Has (insert_key by_place versions v) name
     is_each name speaks reads = elim (more name speaks) [
       | inl before ↦ (let (w, there, named) = witness (λ y. name_of y ≡ name) versions (h.each name before reads) in any_of (λ y. name_of y ≡ name) (insert_key by_place versions v) w (kept w there) named)
       | inr here ↦ any_of (λ y. name_of y ≡ name) (insert_key by_place versions v) v new (is_named ∙ here)
@@ -72,7 +72,7 @@ module _ (tables : List ApiEntry) (on_names : List GroupVersionResource) (first 
     pub gathered_more : AreInPlace (insert_key by_place versions v) → IsGathered tables on_names (first ++ x ∷ []) (insert_key by_place versions v)
     gathered_more up = record { order = up; exact = is_exact; each = is_each }
 
-pub gathered_none : (tables : List ApiEntry) (on_names : List GroupVersionResource) (versions : List KnownVersion) → versions ≡ [] → AreInPlace versions → IsGathered tables on_names [] versions
+pub gathered_none : (tables : Tables) (on_names : List GroupVersionResource) (versions : List KnownVersion) → versions ≡ [] → AreInPlace versions → IsGathered tables on_names [] versions
 gathered_none tables on_names versions empty order = record {
   order = order;
   exact = λ v. (
@@ -82,5 +82,5 @@ gathered_none tables on_names versions empty order = record {
   each = λ name speaks reads. absurd (let below : speaks.0 < 0 = speaks.2 in omega arith);
 }
 
-pub gathered_whole : (tables : List ApiEntry) (on_names : List GroupVersionResource) (entries : List ApiEntry) (n : ℕ) (versions : List KnownVersion) → length entries ≤ n → IsGathered tables on_names (take n entries) versions → IsGathered tables on_names entries versions
+pub gathered_whole : (tables : Tables) (on_names : List GroupVersionResource) (entries : List ApiEntry) (n : ℕ) (versions : List KnownVersion) → length entries ≤ n → IsGathered tables on_names (take n entries) versions → IsGathered tables on_names entries versions
 gathered_whole tables on_names entries n versions all h = subst (λ first. IsGathered tables on_names first versions) (take_all n entries all) h

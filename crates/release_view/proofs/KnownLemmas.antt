@@ -3,6 +3,9 @@ use Rattle.std.proofs.Common.{◌≡◌, ◌&&◌, ℕ, Bool, true, false, IsTru
 use Rattle.std.specs.Option.{option_map}
 use Rattle.std.proofs.lemmas.Bool.{false≢true, and_parts}
 use Rattle.std.proofs.lemmas.Map.Lookups.{exact_bytes}
+use Rattle.fields.specs.declared.table.FieldRow.{FieldRow}
+use Rattle.gate_flags.specs.Values.{HasValue}
+use Rattle.gate_flags.proofs.SearchLemmas.{one_in_order}
 use Rattle.lifecycle.specs.Entry.{GroupVersionResource}
 use Rattle.lifecycle.specs.Tables.{is_of, is_introduction, first_change, live, warning}
 use Rattle.lifecycle.specs.Version.{word_text}
@@ -11,8 +14,10 @@ use Rattle.lifecycle.specs.declared.entry.ApiChange.{ApiChange}
 use Rattle.lifecycle.specs.declared.entry.ApiChange.TheVariants.{Introduced, Deprecated, Removed, Forgotten}
 use Rattle.release_view.proofs.ListLemmas.{found}
 use Rattle.lifecycle.proofs.WordLemmas.{word_text_injective, exact_words}
+use Rattle.row_index.specs.Source.{RowSource}
+use Rattle.schemas.specs.Rows.{AreRows}
 use Rattle.runtime_config.proofs.OrderLemmas.{then_tied}
-use Rattle.release_view.specs.Known.{name_of, naming, deprecation, IsKnown, by_place}
+use Rattle.release_view.specs.Known.{Tables, name_of, naming, deprecation, IsKnown, by_place}
 use Rattle.release_view.specs.declared.known.KnownVersion.{KnownVersion}
 use Rattle.release_view.specs.declared.known.Planned.{Planned}
 
@@ -34,18 +39,22 @@ same_bool true false f g = absurd (false≢true (f refl))
 same_bool false true f g = absurd (false≢true (g refl))
 same_bool false false f g = refl
 
-module _ (tables : List ApiEntry) (on_names : List GroupVersionResource) where
+one_table : (source : RowSource) (name : GroupVersionResource) (rows others : List FieldRow) → AreRows (λ gate. HasValue source.gates gate true) source.fields source.spells name rows → AreRows (λ gate. HasValue source.gates gate true) source.fields source.spells name others → rows ≡ others
+one_table source name rows others a b = one_in_order (λ (r : FieldRow). r.id) rows others a.order b.order (λ row. ((λ there. (b.exact row).1 ((a.exact row).0 there)), (λ there. (a.exact row).1 ((b.exact row).0 there))))
+
+module _ (tables : Tables) (on_names : List GroupVersionResource) where
   pub same_version : (v w : KnownVersion) → IsKnown tables on_names v → IsKnown tables on_names w → name_of v ≡ name_of w → v ≡ w
   same_version v w a b name =
       let words : v.word ≡ w.word = word_text_injective v.word w.word a.lawful b.lawful (sym a.spelled ∙ ap (λ n. n.version) name ∙ b.spelled) in
       let namings : record { kind = v.table.kind; singular = v.singular; namespaced = v.namespaced } ≡ record { kind = w.table.kind; singular = w.singular; namespaced = w.namespaced } =
-      some_same _ _ (sym a.named_as ∙ ap (naming tables) name ∙ b.named_as) in
-      let lives : v.live ≡ w.live = a.is_live ∙ ap (live tables) name ∙ sym b.is_live in
+      some_same _ _ (sym a.named_as ∙ ap (naming tables.apis) name ∙ b.named_as) in
+      let lives : v.live ≡ w.live = a.is_live ∙ ap (live tables.apis) name ∙ sym b.is_live in
       let serves : v.served ≡ w.served = same_bool v.served w.served (λ t. b.is_served.1 (subst (Contains on_names) name (a.is_served.0 t))) (λ t. a.is_served.1 (subst (Contains on_names) (sym name) (b.is_served.0 t))) in
-      let warnings : v.warning ≡ w.warning = same_warning v.warning w.warning (a.warned ∙ ap (warning tables) name ∙ sym b.warned) in
-      let no_rows : v.table.rows ≡ w.table.rows = a.rows ∙ sym b.rows in
+      let warnings : v.warning ≡ w.warning = same_warning v.warning w.warning (a.warned ∙ ap (warning tables.apis) name ∙ sym b.warned) in
+      let same_rows : v.table.rows ≡ w.table.rows = one_table tables.source (name_of w) v.table.rows w.table.rows
+      (subst (λ n. AreRows (λ gate. HasValue tables.source.gates gate true) tables.source.fields tables.source.spells n v.table.rows) name a.rows) b.rows in
       λ i. record {
-        table = record { group = (name i).group; version = (name i).version; resource = (name i).resource; kind = (namings i).kind; rows = no_rows i };
+        table = record { group = (name i).group; version = (name i).version; resource = (name i).resource; kind = (namings i).kind; rows = same_rows i };
         word = words i;
         singular = (namings i).singular;
         namespaced = (namings i).namespaced;

@@ -20,9 +20,8 @@ use Rattle.schemas.specs.Dated.{Dated}
 use Rattle.schemas.specs.Rules.{IsAccepted}
 use Rattle.schemas.specs.Shapes.{IsShapedApi}
 use Rattle.schemas.proofs.PreviousLemmas.{IsLastBefore, IsLast, last_passing_is}
-use Rattle.release_view.specs.Known.{name_of, AreKnown}
+use Rattle.release_view.specs.Known.{name_of, tables_at, AreKnown}
 use Rattle.release_view.specs.Parts.{IsGathered, Speaks}
-use Rattle.release_view.specs.Views.{Viewed, IsViewOf}
 use Rattle.release_view.specs.declared.known.KnownVersion.{KnownVersion}
 
 forgettings : (c : ApiChange) → (is_forgetting c ≡ true) ↔ IsForgetting c
@@ -80,20 +79,13 @@ module _ (h : Dated) (accepted : IsAccepted h) (e : ℕ) (name : GroupVersionRes
       let any = (introduced_dated h.apis name e).0 introduced in
       (any.0, any.1, any.2, any.3, (λ i. record { group = any.4.0.group i; version = any.4.0.version i; resource = any.4.0.resource i }))
 
-module _ (h : Dated) (accepted : IsAccepted h) (e : ℕ) (on_names : List GroupVersionResource) (versions : List KnownVersion) (gathered : IsGathered (cutoff h.apis e) on_names h.apis versions) where
-  pub are_known : AreKnown (cutoff h.apis e) on_names versions
+module _ (h : Dated) (accepted : IsAccepted h) (e : ℕ) (gates : Gates) (on_names : List GroupVersionResource) (versions : List KnownVersion) (gathered : IsGathered (tables_at h e gates) on_names h.apis versions) where
+  pub are_known : AreKnown (tables_at h e gates) on_names versions
   are_known = record {
     order = gathered.order;
     exact = λ v. ((λ there. ((gathered.exact v).0 there).0), (λ known. (gathered.exact v).1 (known, decodable_speaks h accepted e (name_of v) known.decodes)));
     each_decodable = λ name reads. gathered.each name (decodable_speaks h accepted e name reads) reads;
     each_live = λ name lives. let reads = live_decodable h accepted e name lives in gathered.each name (decodable_speaks h accepted e name reads) reads;
-  }
-
-  pub viewed_so : (gates : Gates) (view : Viewed) → view.minor ≡ e → view.gates ≡ gates → view.versions ≡ versions → IsViewOf h.apis e gates on_names view
-  viewed_so gates view minor is_gates is_versions = record {
-    of_minor = minor;
-    of_gates = is_gates;
-    of_versions = subst (AreKnown (cutoff h.apis e) on_names) (sym is_versions) are_known;
   }
 
 pub shaped_versions : (xs : List ApiEntry) → AllByRecursion IsShapedApi xs → All (λ x. IsVersion x.version) xs

@@ -13,8 +13,7 @@ use Rattle.std.proofs.lemmas.Slice.Eq.{bytes_eq-Decides}
 use Rattle.lifecycle.specs.Entry.{GroupVersionResource}
 use Rattle.lifecycle.specs.Stability.{by_stability}
 use Rattle.lifecycle.specs.Tables.{decodable, live, warning}
-use Rattle.lifecycle.specs.declared.entry.ApiEntry.{ApiEntry}
-use Rattle.release_view.specs.Known.{name_of, deprecation, IsKnown, AreInPlace, AreKnown, Has, by_place}
+use Rattle.release_view.specs.Known.{Tables, name_of, deprecation, IsKnown, AreInPlace, AreKnown, Has, by_place}
 use Rattle.release_view.specs.Order.{by_stability_total}
 use Rattle.release_view.specs.Served.{shown, served_as, served_of}
 use Rattle.release_view.specs.Views.{Viewed, has_name, is_shown_as, version_in, table_in, served_in, warning_in, is_live_of, has_live, IsBest}
@@ -79,20 +78,20 @@ served_one : (v : KnownVersion) (b : Bool) (s : ServedVersion) → v.served ≡ 
 served_one v true s e h = (e, (let f : Option ServedVersion → ServedVersion = λ o. elim o [ None ↦ s | Some z ↦ z ] in ap f h))
 served_one v false s e h = absurd (let clash : None ≡ Some s = h in cc)
 
-module _ (tables : List ApiEntry) (on_names : List GroupVersionResource) (versions : List KnownVersion) (known : AreKnown tables on_names versions) where
+module _ (tables : Tables) (on_names : List GroupVersionResource) (versions : List KnownVersion) (known : AreKnown tables on_names versions) where
   is_known : (v : KnownVersion) → Contains versions v → IsKnown tables on_names v
   is_known v there = (known.exact v).0 there
 
-  table_tells : (name : GroupVersionResource) → IsSome (table_in versions name) ↔ (decodable tables name ≡ true)
+  table_tells : (name : GroupVersionResource) → IsSome (table_in versions name) ↔ (decodable tables.apis name ≡ true)
   table_tells name = (
     λ h.
         let (v, e) = some_option (λ (v : KnownVersion). v.table) (version_in versions name) h in
         let (there, named) = there_version versions name v e in
-        subst (λ n. decodable tables n ≡ true) named (is_known v there).decodes,
+        subst (λ n. decodable tables.apis n ≡ true) named (is_known v there).decodes,
     λ h. let (v, e) = version_there versions name (known.each_decodable name h) in option_some (λ (v : KnownVersion). v.table) (version_in versions name) v e,
   )
 
-  served_tells : ((name : GroupVersionResource) → Contains on_names name → live tables name ≡ true) → (name : GroupVersionResource) → IsSome (served_in versions name) ↔ Contains on_names name
+  served_tells : ((name : GroupVersionResource) → Contains on_names name → live tables.apis name ≡ true) → (name : GroupVersionResource) → IsSome (served_in versions name) ↔ Contains on_names name
   served_tells lives name = (
     λ h.
         let (s, e) = some_from (served_in versions name) h in
@@ -109,16 +108,16 @@ module _ (tables : List ApiEntry) (on_names : List GroupVersionResource) (versio
         finds (is_shown_as name) (served_of versions) (shown v) listed (so_named name v.table.group v.table.version v.table.resource named),
   )
 
-  warned_by : (name : GroupVersionResource) (o : Option KnownVersion) → version_in versions name ≡ o → option_and_then (λ v. option_map deprecation v.warning) o ≡ warning tables name
-  warned_by name (Some v) e = let (among, named) = there_version versions name v e in (is_known v among).warned ∙ ap (warning tables) named
+  warned_by : (name : GroupVersionResource) (o : Option KnownVersion) → version_in versions name ≡ o → option_and_then (λ v. option_map deprecation v.warning) o ≡ warning tables.apis name
+  warned_by name (Some v) e = let (among, named) = there_version versions name v e in (is_known v among).warned ∙ ap (warning tables.apis) named
   warned_by name None e =
-      let not_live : live tables name ≡ false = false_from_ne_true (live tables name) (λ h. let (v, there) = version_there versions name (known.each_live name h) in let clash : None ≡ Some v = sym e ∙ there in cc) in
+      let not_live : live tables.apis name ≡ false = false_from_ne_true (live tables.apis name) (λ h. let (v, there) = version_there versions name (known.each_live name h) in let clash : None ≡ Some v = sym e ∙ there in cc) in
       rw not_live refl
 
-  warning_tells : (name : GroupVersionResource) → warning_in versions name ≡ warning tables name
+  warning_tells : (name : GroupVersionResource) → warning_in versions name ≡ warning tables.apis name
   warning_tells name = warned_by name (version_in versions name) refl
 
-  kind_tells : (group resource : List ℕ) → (has_live versions group resource ≡ true) ↔ IsKindLive tables group resource
+  kind_tells : (group resource : List ℕ) → (has_live versions group resource ≡ true) ↔ IsKindLive tables.apis group resource
   kind_tells group resource = (
     λ h.
         let (v, e) = some_from (find (is_live_of group resource) versions) (some-find (is_live_of group resource) versions ∙ h) in
@@ -128,12 +127,12 @@ module _ (tables : List ApiEntry) (on_names : List GroupVersionResource) (versio
         let p = same_bytes v.table.group group g in
         let q = same_bytes v.table.resource resource r in
         let named : name_of v ≡ record { group = group; version = v.table.version; resource = resource } = λ i. record { group = p i; version = v.table.version; resource = q i } in
-        (v.table.version, ap (live tables) (sym named) ∙ sym (is_known v among).is_live ∙ is_live),
+        (v.table.version, ap (live tables.apis) (sym named) ∙ sym (is_known v among).is_live ∙ is_live),
     λ h.
         let name : GroupVersionResource = record { group = group; version = h.0; resource = resource } in
         let (v, e) = version_there versions name (known.each_live name h.1) in
         let (among, named) = there_version versions name v e in
-        let is_live : v.live ≡ true = (is_known v among).is_live ∙ ap (live tables) named ∙ h.1 in
+        let is_live : v.live ≡ true = (is_known v among).is_live ∙ ap (live tables.apis) named ∙ h.1 in
         let passes : is_live_of group resource v ≡ true =
         and_from (v.live && bytes_eq v.table.group group) (bytes_eq v.table.resource resource)
         (and_from v.live (bytes_eq v.table.group group) is_live (bytes_same v.table.group group (ap (λ n. n.group) named)))
@@ -141,7 +140,7 @@ module _ (tables : List ApiEntry) (on_names : List GroupVersionResource) (versio
         sym (some-find (is_live_of group resource) versions) ∙ finds (is_live_of group resource) versions v among passes,
   )
 
-pub tells : (tables : List ApiEntry) (on_names : List GroupVersionResource) (view : Viewed) → AreKnown tables on_names view.versions → ((name : GroupVersionResource) → Contains on_names name → live tables name ≡ true) → TellsTables tables on_names view
+pub tells : (tables : Tables) (on_names : List GroupVersionResource) (view : Viewed) → AreKnown tables on_names view.versions → ((name : GroupVersionResource) → Contains on_names name → live tables.apis name ≡ true) → TellsTables tables.apis on_names view
 tells tables on_names view known lives = record {
   tables = table_tells tables on_names view.versions known;
   served = served_tells tables on_names view.versions known lives;

@@ -1,16 +1,21 @@
 -- What the tables of a release say of a version of a resource, as a view holds it.
-use Rattle.std.specs.Prelude.{◌≡◌, ◌↔◌, ℕ, List, [], Bool, true, IsTrue, Any, Contains, Option, Some, None, option_map, option_and_then}
+use Rattle.std.specs.Prelude.{◌≡◌, ◌↔◌, ℕ, List, Bool, true, IsTrue, Any, Contains, Option, Some, None, option_map, option_and_then}
 use Rattle.std.specs.declared.cmp.Ordering.{Ordering}
 use Rattle.std.specs.Ordering.{nat_cmp, on, then_cmp}
 use Rattle.std.specs.Cmp.Lexicographic.{slice_cmp}
 use Rattle.std.specs.List.Sorted.{IsStrictlySortedBy}
+use Rattle.gate_flags.specs.Values.{Gates, HasValue}
 use Rattle.lifecycle.specs.Entry.{GroupVersionResource}
 use Rattle.lifecycle.specs.Stability.{by_stability}
-use Rattle.lifecycle.specs.Tables.{Deprecation, is_introduction, first_change, live, decodable, warning}
+use Rattle.lifecycle.specs.Tables.{Deprecation, cutoff, is_introduction, first_change, live, decodable, warning}
 use Rattle.lifecycle.specs.Version.{IsWord, word_text}
 use Rattle.lifecycle.specs.declared.entry.ApiEntry.{ApiEntry}
 use Rattle.lifecycle.specs.declared.entry.ApiChange.{ApiChange}
 use Rattle.lifecycle.specs.declared.entry.ApiChange.TheVariants.{Introduced}
+use Rattle.row_index.specs.Source.{RowSource}
+use Rattle.schemas.specs.Cutoff.{fields_by, spells_by}
+use Rattle.schemas.specs.Dated.{Dated}
+use Rattle.schemas.specs.Rows.{AreRows}
 use Rattle.release_view.specs.declared.known.KnownVersion.{KnownVersion}
 use Rattle.release_view.specs.declared.known.Planned.{Planned}
 
@@ -31,19 +36,28 @@ naming_of _ = None
 abbrev pub naming : List ApiEntry → GroupVersionResource → Option Naming
 naming tables name = option_and_then (λ x. naming_of x.change) (first_change is_introduction tables name)
 
+-- what versions are known by: changes of versions, and what rows are made of
+pub record Tables : Type 0 where
+  pub apis : List ApiEntry
+  pub source : RowSource
+
+-- those of a release, with the values of its gates
+abbrev pub tables_at : Dated → ℕ → Gates → Tables
+tables_at h e gates = record { apis = cutoff h.apis e; source = record { fields = fields_by h.fields e; spells = spells_by h.spells e; gates = gates } }
+
 abbrev pub deprecation : Planned → Deprecation
 deprecation p = record { since = p.since; removal = p.removal; replacement = p.replacement }
 
 -- the version is read at the release, and this is what its tables and the served names say of it
-pub record IsKnown (tables : List ApiEntry) (on_names : List GroupVersionResource) (v : KnownVersion) : Type 0 where
-  pub decodes : decodable tables (name_of v) ≡ true
-  pub named_as : naming tables (name_of v) ≡ Some (record { kind = v.table.kind; singular = v.singular; namespaced = v.namespaced })
+pub record IsKnown (tables : Tables) (on_names : List GroupVersionResource) (v : KnownVersion) : Type 0 where
+  pub decodes : decodable tables.apis (name_of v) ≡ true
+  pub named_as : naming tables.apis (name_of v) ≡ Some (record { kind = v.table.kind; singular = v.singular; namespaced = v.namespaced })
   pub lawful : IsWord v.word
   pub spelled : v.table.version ≡ word_text v.word
-  pub is_live : v.live ≡ live tables (name_of v)
+  pub is_live : v.live ≡ live tables.apis (name_of v)
   pub is_served : IsTrue v.served ↔ Contains on_names (name_of v)
-  pub warned : option_map deprecation v.warning ≡ warning tables (name_of v)
-  pub rows : v.table.rows ≡ []
+  pub warned : option_map deprecation v.warning ≡ warning tables.apis (name_of v)
+  pub rows : AreRows (λ gate. HasValue tables.source.gates gate true) tables.source.fields tables.source.spells (name_of v) v.table.rows
 
 -- by group in order of bytes, then the most stable first, then by resource in order of bytes
 abbrev pub by_place : KnownVersion → KnownVersion → Ordering
@@ -57,8 +71,8 @@ abbrev pub Has : List KnownVersion → GroupVersionResource → Type 0
 Has versions name = Any (λ v. name_of v ≡ name) versions
 
 -- the versions that the tables have, each once, in order
-pub record AreKnown (tables : List ApiEntry) (on_names : List GroupVersionResource) (versions : List KnownVersion) : Type 0 where
+pub record AreKnown (tables : Tables) (on_names : List GroupVersionResource) (versions : List KnownVersion) : Type 0 where
   pub order : AreInPlace versions
   pub exact : (v : KnownVersion) → Contains versions v ↔ IsKnown tables on_names v
-  pub each_decodable : (name : GroupVersionResource) → decodable tables name ≡ true → Has versions name
-  pub each_live : (name : GroupVersionResource) → live tables name ≡ true → Has versions name
+  pub each_decodable : (name : GroupVersionResource) → decodable tables.apis name ≡ true → Has versions name
+  pub each_live : (name : GroupVersionResource) → live tables.apis name ≡ true → Has versions name

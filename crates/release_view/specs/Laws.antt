@@ -4,12 +4,13 @@ use Rattle.gate_flags.specs.Values.{Gates}
 use Rattle.lifecycle.specs.Entry.{GroupVersionResource}
 use Rattle.lifecycle.specs.Tables.{live, decodable, warning}
 use Rattle.lifecycle.specs.declared.entry.ApiEntry.{ApiEntry}
+use Rattle.schemas.specs.Dated.{Dated}
 use Rattle.release_view.specs.Views.{Viewed, IsViewOf, table_in, served_in, warning_in, has_live}
 
 -- a release has one view with these gates and served versions, also by a history that was cut at the release
-pub record HasOneView (apis cut : List ApiEntry) (e : ℕ) : Type 0 where
-  pub one : (gates : Gates) (on_names : List GroupVersionResource) (v w : Viewed) → IsViewOf apis e gates on_names v → IsViewOf apis e gates on_names w → v ≡ w
-  pub same : (gates : Gates) (on_names : List GroupVersionResource) (v : Viewed) → IsViewOf apis e gates on_names v ↔ IsViewOf cut e gates on_names v
+pub record HasOneView (history cut : Dated) (e : ℕ) : Type 0 where
+  pub one : (gates : Gates) (on_names : List GroupVersionResource) (v w : Viewed) → IsViewOf history e gates on_names v → IsViewOf history e gates on_names w → v ≡ w
+  pub same : (gates : Gates) (on_names : List GroupVersionResource) (v : Viewed) → IsViewOf history e gates on_names v ↔ IsViewOf cut e gates on_names v
 
 -- some version of the resource is live
 abbrev pub IsKindLive : List ApiEntry → List ℕ → List ℕ → Type 0

@@ -10,11 +10,10 @@ use Rattle.lifecycle.specs.Entry.{GroupVersionResource}
 use Rattle.lifecycle.specs.Names.{group_version}
 use Rattle.lifecycle.specs.Stability.{by_stability}
 use Rattle.lifecycle.specs.Tables.{Deprecation, cutoff, live}
-use Rattle.lifecycle.specs.declared.entry.ApiEntry.{ApiEntry}
 use Rattle.schemas.specs.Dated.{Dated}
 use Rattle.schemas.specs.Rules.{first_of, last_of}
 use Rattle.release_view.specs.Gates.{AreGatesOf}
-use Rattle.release_view.specs.Known.{AreKnown, deprecation}
+use Rattle.release_view.specs.Known.{tables_at, AreKnown, deprecation}
 use Rattle.release_view.specs.Served.{served_of}
 use Rattle.release_view.specs.declared.known.KnownVersion.{KnownVersion}
 use Rattle.release_view.specs.declared.served.ServedVersion.{ServedVersion}
@@ -34,10 +33,10 @@ pub record IsViewable (history : Dated) (e : ℕ) (gates : Gates) (on_names : Li
   pub lives : (name : GroupVersionResource) → Contains on_names name → live (cutoff history.apis e) name ≡ true
 
 -- the view of the release by this history, these gates and these served versions
-pub record IsViewOf (apis : List ApiEntry) (e : ℕ) (gates : Gates) (on_names : List GroupVersionResource) (view : Viewed) : Type 0 where
+pub record IsViewOf (history : Dated) (e : ℕ) (gates : Gates) (on_names : List GroupVersionResource) (view : Viewed) : Type 0 where
   pub of_minor : view.minor ≡ e
   pub of_gates : view.gates ≡ gates
-  pub of_versions : AreKnown (cutoff apis e) on_names view.versions
+  pub of_versions : AreKnown (tables_at history e gates) on_names view.versions
 
 -- ---- look-ups
 

@@ -1,20 +1,22 @@
 //! The view of a release, made from a history.
-ghost use Rattle.std.specs.Prelude.{◌≡◌, [], All, IfOk, option_map};
+ghost use Rattle.std.specs.Prelude.{◌≡◌, All, IfOk, option_map};
 ghost use Rattle.lifecycle.specs.Entry.{named, subject};
-ghost use Rattle.lifecycle.specs.Tables.{cutoff, warning};
+ghost use Rattle.lifecycle.specs.Tables.{warning};
 ghost use Rattle.lifecycle.specs.Version.{IsVersion};
-ghost use Rattle.release_view.specs.Known.{deprecation};
-ghost use Rattle.release_view.specs.Parts.{IsGathered, IsVersionOf};
+ghost use Rattle.release_view.specs.Known.{tables_at, deprecation, AreKnown};
+ghost use Rattle.release_view.specs.Parts.{IsGathered, IsTableOf, IsVersionOf};
+ghost use Rattle.release_view.specs.Spelling.{HaveLawfulTables, SpellAlike};
 ghost use Rattle.release_view.specs.Views.{IsViewable, IsViewOf};
 
 use crate::known::{KnownVersion, Planned};
 use crate::release::View;
 use crate::served::served_versions;
 use basis::Memory;
-use fields::{FieldRows, VersionTable};
+use fields::VersionTable;
 use gate_flags::GateValues;
 use lifecycle::{ApiChange, ApiEntry, ApiName, version_word};
 use minor_version::{Blob, Minor, Text};
+use row_index::RowIndex;
 use runtime_config::Enabled;
 use schemas::Accepted;
 use std::alloc::Global;
@@ -39,15 +41,21 @@ fn planned<'a>(
     }))
 }
 
-fn table(alloc: Global, entry: &ApiEntry, kind: &Text) -> Result<VersionTable, Memory>
-    ensures { IfOk result (λ t. t ≡ record { group = entry.now.group; version = entry.now.version; resource = entry.now.resource; kind = kind.now; rows = [] }) }
+fn table<'a>(
+    alloc: Global,
+    rows: &RowIndex<'a>,
+    entry: &'a ApiEntry,
+    kind: &Text,
+) -> Result<VersionTable, Memory>
+    ensures { IfOk result (IsTableOf rows.now (subject entry.now) kind.now) }
 {
+    let rows = rows.rows(alloc, entry.name())?;
     Ok(VersionTable {
         group: entry.group.duplicate(alloc)?,
         version: entry.version.duplicate(alloc)?,
         resource: entry.resource.duplicate(alloc)?,
         kind: kind.duplicate(alloc)?,
-        rows: FieldRows::new(),
+        rows,
     })
 }
 
@@ -55,11 +63,12 @@ fn table(alloc: Global, entry: &ApiEntry, kind: &Text) -> Result<VersionTable, M
 fn known_version<'a>(
     alloc: Global,
     index: &VersionIndex<'a>,
+    rows: &RowIndex<'a>,
     on: &Enabled,
     entry: &'a ApiEntry,
 ) -> Result<Option<KnownVersion>, Memory>
     requires { IsVersion entry.now.version }
-    ensures { IfOk result (IsVersionOf index.now on.now (subject entry.now)) }
+    ensures { IfOk result (IsVersionOf (record { apis = index.now; source = rows.now }) on.now (subject entry.now)) }
 {
     let name = entry.name();
     if !index.is_decodable(name) {
@@ -81,7 +90,7 @@ fn known_version<'a>(
         return Ok(None);
     };
     Ok(Some(KnownVersion {
-        table: table(alloc, entry, kind)?,
+        table: table(alloc, rows, entry, kind)?,
         word,
         singular: singular.duplicate(alloc)?,
         namespaced: *namespaced,
@@ -96,14 +105,15 @@ fn gathered<'a>(
     alloc: Global,
     entries: &'a [ApiEntry],
     index: &VersionIndex<'a>,
+    rows: &RowIndex<'a>,
     on: &Enabled,
 ) -> Result<Vec<KnownVersion>, Memory>
     requires { All (λ x. IsVersion x.version) entries.now }
-    ensures { IfOk result (λ v. IsGathered index.now on.now entries.now v.items) }
+    ensures { IfOk result (λ v. IsGathered (record { apis = index.now; source = rows.now }) on.now entries.now v.items) }
 {
     let mut versions = BTreeSet::new(alloc);
     for entry in entries {
-        let version = match known_version(alloc, index, on, entry) {
+        let version = match known_version(alloc, index, rows, on, entry) {
             Ok(Some(version)) => version,
             Ok(None) => continue,
             Err(Memory) => return Err(Memory),
@@ -117,6 +127,26 @@ fn gathered<'a>(
     Ok(versions)
 }
 
+/// The versions that the release reads, in order, with the rows of their tables.
+fn known_versions(
+    alloc: Global,
+    a: &Accepted,
+    e: Minor,
+    gates: &GateValues,
+    on: &Enabled,
+) -> Result<Vec<KnownVersion>, Memory>
+    ensures known { IfOk result (λ v. AreKnown (tables_at a.now e gates.now) on.now v.items) }
+    ensures lawful { IfOk result (λ v. HaveLawfulTables v.items) }
+    ensures alike { IfOk result (λ v. SpellAlike v.items) }
+{
+    let history = a.history();
+    let entries = history.apis.items();
+    let index = VersionIndex::at(alloc, entries, e)?;
+    let rows = RowIndex::at(alloc, a, e, gates)?;
+    let versions = gathered(alloc, entries, &index, &rows, on)?;
+    Ok(versions)
+}
+
 /// The view of the release e, with the values of its gates and the versions that it serves.
 pub fn view(
     alloc: Global,
@@ -126,12 +156,9 @@ pub fn view(
     on: Enabled,
 ) -> Result<View, Memory>
     requires { IsViewable a.now e gates on }
-    ensures { IfOk result (IsViewOf a.now.apis e gates on) }
+    ensures { IfOk result (IsViewOf a.now e gates on) }
 {
-    let history = a.history();
-    let entries = history.apis.items();
-    let index = VersionIndex::at(alloc, entries, e)?;
-    let versions = gathered(alloc, entries, &index, &on)?;
+    let versions = known_versions(alloc, a, e, &gates, &on)?;
     let served = served_versions(alloc, &versions)?;
     Ok(View::new(e, gates, versions, served))
 }

@@ -9,27 +9,27 @@ ghost use Rattle.lifecycle.specs.Tables.{cutoff, live};
 ghost use Rattle.release_view.specs.Laws.{HasOneView, TellsTables};
 ghost use Rattle.release_view.specs.Views.{IsViewable, IsViewOf};
 ghost use Rattle.runtime_config.specs.Config.{AreServed};
+ghost use Rattle.schemas.specs.Cutoff.{cutoff as history_cutoff};
 ghost use Rattle.schemas.specs.Rules.{first_of, last_of};
 
 use crate::release::View;
 use gate_flags::GateValues;
-use lifecycle::ApiEntry;
 use minor_version::Minor;
 use runtime_config::Enabled;
-use schemas::Accepted;
+use schemas::{Accepted, History};
 
 /// The tables of a release, the values of its gates and its served versions determine its view; where the history is cut
 /// at the release, the view is the same.
-pub fn tables_determine_view(apis: &[ApiEntry], cut: &[ApiEntry], e: Minor)
-    requires { cut.now ≡ cutoff apis.now e }
-    ensures { HasOneView apis.now cut.now e }
+pub fn tables_determine_view(history: &History, cut: &History, e: Minor)
+    requires { cut.now ≡ history_cutoff history.now e }
+    ensures { HasOneView history.now cut.now e }
 {}
 
 /// What is looked up in a view of the release e is what the tables and the served names say.
-pub fn view_tells_tables(view: &View, apis: &[ApiEntry], e: Minor, on: &Enabled)
-    requires of { IsViewOf apis.now e view.now.gates on.now view.now }
-    requires lives { (name : GroupVersionResource) → Contains on.now name → live (cutoff apis.now e) name ≡ true }
-    ensures { TellsTables (cutoff apis.now e) on.now view.now }
+pub fn view_tells_tables(view: &View, history: &History, e: Minor, on: &Enabled)
+    requires of { IsViewOf history.now e view.now.gates on.now view.now }
+    requires lives { (name : GroupVersionResource) → Contains on.now name → live (cutoff history.now.apis e) name ≡ true }
+    ensures { TellsTables (cutoff history.now.apis e) on.now view.now }
 {
     let _view = view;
 }

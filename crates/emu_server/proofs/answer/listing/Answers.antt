@@ -11,12 +11,12 @@ use Rattle.emu_server.specs.declared.status.Status.{Status}
 use Rattle.emu_server.proofs.RangeLemmas.{at_release}
 use Rattle.emu_server.proofs.answer.listing.Goals as goal
 
-listed : (emulated runtime : Option (List ℕ)) (h : Dated) (e : ℕ) (given : List ℕ) (s : Status) (text : List ℕ) → given ≡ unwrap_or runtime [] → IsEmulated (first_of h) (last_of h) emulated e → IsListingAt h.apis e given s text
+listed : (emulated runtime : Option (List ℕ)) (h : Dated) (e : ℕ) (given : List ℕ) (s : Status) (text : List ℕ) → given ≡ unwrap_or runtime [] → IsEmulated (first_of h) (last_of h) emulated e → IsListingAt h e given s text
     → IsListing emulated runtime h s text
-listed emulated runtime h e given s text same is at = at_release (λ e. IsListingAt h.apis e (unwrap_or runtime [])) emulated h e s text is (subst (λ t. IsListingAt h.apis e t s text) same at)
+listed emulated runtime h e given s text same is at = at_release (λ e. IsListingAt h e (unwrap_or runtime [])) emulated h e s text is (subst (λ t. IsListingAt h e t s text) same at)
 
 pub returns-in-Ok : goal.returns-in-Ok
 returns-in-Ok c =
-    IfOk-weaker c.listing_at.result (λ (a : Answer). IsListingAt c.args.accepted.now.apis c.in-Ok.e c.text_or_empty.result.now a.status (string_bytes a.text)) _
+    IfOk-weaker c.listing_at.result (λ (a : Answer). IsListingAt c.args.accepted.now c.in-Ok.e c.text_or_empty.result.now a.status (string_bytes a.text)) _
     (λ a at. listed (text_of c.args.emulated) (text_of c.args.runtime) c.args.accepted.now c.in-Ok.e c.text_or_empty.result.now a.status (string_bytes a.text) c.text_or_empty.ensures c.in-Ok.ensures.ok at)
     c.listing_at.ensures

@@ -13,7 +13,9 @@ returns c =
       valid = c.requires.valid;
       on = c.args.on;
       served = c.requires.served;
+      gates = c.in_ok-view.view.gates;
+      valued = c.in_ok-view.ensures.values;
       view = c.in_ok-view.view;
-      known = c.in_ok-view.ensures;
+      viewed = c.in_ok-view.ensures.view;
       written = c.in_ok-push.ensures.bytes ∙ ap (λ t. t ++ 10 ∷ []) (c.in_ok-text.ensures.text plain ∙ ap compact_text c.in_ok-value.ensures);
     }

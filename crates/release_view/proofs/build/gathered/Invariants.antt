@@ -3,4 +3,4 @@ use Rattle.release_view.specs.Parts.{IsGathered}
 use Rattle.release_view.proofs.build.gathered.Given as goal
 
 abbrev pub invariant-loop-entry : goal.invariant-loop-entry
-invariant-loop-entry l = IsGathered l.index l.on (take l.entry-index l.entries) l.versions.keys
+invariant-loop-entry l = IsGathered (record { apis = l.index; source = l.rows }) l.on (take l.entry-index l.entries) l.versions.keys
