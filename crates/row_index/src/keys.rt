@@ -16,34 +16,34 @@ use std::collections::BTreeMap;
 fn take_field<'a>(
     alloc: Global,
     listing: &mut Listing<'a, Field>,
-    entry: &'a Field,
+    field: &'a Field,
 ) -> Result<(), Memory>
-    ensures { OnOk result ((fields : List TheField) → IsListing resource_of fields listing.old → IsListing resource_of (fields ++ entry.now ∷ []) listing.new) }
+    ensures { OnOk result ((fields : List TheField) → IsListing resource_of fields listing.old → IsListing resource_of (fields ++ field.now ∷ []) listing.new) }
 {
     add(
         alloc,
         listing,
-        entry.group.bytes(),
-        entry.resource.bytes(),
+        field.group.bytes(),
+        field.resource.bytes(),
         &[],
-        entry,
+        field,
     )
 }
 
 /// The fields of each resource that are dated at or before the release.
 pub fn list_fields<'a>(
     alloc: Global,
-    entries: &'a [Field],
+    fields: &'a [Field],
     e: Minor,
 ) -> Result<Listing<'a, Field>, Memory>
-    ensures { IfOk result (IsListing resource_of (fields_by entries.now e)) }
+    ensures { IfOk result (IsListing resource_of (fields_by fields.now e)) }
 {
     let mut listing: Listing<'a, Field> = BTreeMap::new(alloc);
-    for entry in entries {
-        if entry.since > e {
+    for field in fields {
+        if field.since > e {
             continue;
         }
-        match take_field(alloc, &mut listing, entry) {
+        match take_field(alloc, &mut listing, field) {
             Ok(()) => {}
             Err(Memory) => return Err(Memory),
         }
@@ -54,34 +54,34 @@ pub fn list_fields<'a>(
 fn take_spell<'a>(
     alloc: Global,
     listing: &mut Listing<'a, Spell>,
-    entry: &'a Spell,
+    spell: &'a Spell,
 ) -> Result<(), Memory>
-    ensures { OnOk result ((spells : List TheSpell) → IsListing version_of spells listing.old → IsListing version_of (spells ++ entry.now ∷ []) listing.new) }
+    ensures { OnOk result ((spells : List TheSpell) → IsListing version_of spells listing.old → IsListing version_of (spells ++ spell.now ∷ []) listing.new) }
 {
     add(
         alloc,
         listing,
-        entry.group.bytes(),
-        entry.version.bytes(),
-        entry.resource.bytes(),
-        entry,
+        spell.group.bytes(),
+        spell.version.bytes(),
+        spell.resource.bytes(),
+        spell,
     )
 }
 
 /// The spellings of each version that are dated at or before the release.
 pub fn list_spells<'a>(
     alloc: Global,
-    entries: &'a [Spell],
+    spells: &'a [Spell],
     e: Minor,
 ) -> Result<Listing<'a, Spell>, Memory>
-    ensures { IfOk result (IsListing version_of (spells_by entries.now e)) }
+    ensures { IfOk result (IsListing version_of (spells_by spells.now e)) }
 {
     let mut listing: Listing<'a, Spell> = BTreeMap::new(alloc);
-    for entry in entries {
-        if entry.since > e {
+    for spell in spells {
+        if spell.since > e {
             continue;
         }
-        match take_spell(alloc, &mut listing, entry) {
+        match take_spell(alloc, &mut listing, spell) {
             Ok(()) => {}
             Err(Memory) => return Err(Memory),
         }

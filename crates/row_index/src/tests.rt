@@ -1,4 +1,4 @@
-use crate::RowIndex;
+use crate::{RowIndex, version_has_one_table};
 use fields::{FieldRow, FieldValue};
 use gate_flags::gate_values;
 use history_reader::read_history;
@@ -110,6 +110,12 @@ fn rows_text(
         version: version.as_bytes(),
         resource: b"widgets",
     };
+    version_has_one_table(
+        &values,
+        history.fields.items(),
+        history.spells.items(),
+        name,
+    );
     let mut text = String::new(alloc);
     for row in index.rows(alloc, name)?.items() {
         text.push_str(row_text(alloc, row)?.as_str())?;

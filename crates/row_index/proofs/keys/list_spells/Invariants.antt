@@ -4,5 +4,5 @@ use Rattle.row_index.specs.Keys.{version_of}
 use Rattle.schemas.specs.Cutoff.{spells_by}
 use Rattle.row_index.proofs.keys.list_spells.Given as goal
 
-abbrev pub invariant-loop-entry : goal.invariant-loop-entry
-invariant-loop-entry l = IsListing version_of (spells_by (take l.entry-index l.entries) l.e) l.listing
+abbrev pub invariant-loop-spell : goal.invariant-loop-spell
+invariant-loop-spell l = IsListing version_of (spells_by (take l.spell-index l.spells) l.e) l.listing
