@@ -1,14 +1,17 @@
+//! What the pages of a release hold. Each case asks for a page, or looks something up, with a few words: the number of a
+//! release, what is asked, and of what.
 use crate::{group, group_list, metrics, resource_list, version_info};
 use gate_flags::gate_values;
 use history_reader::read_history;
 use history_rules::check;
 use lifecycle::ApiName;
-use minor_version::from_number;
+use minor_version::{Minor, from_number};
 use release_view::{View, texts_make_view, view};
 use runtime_config::enabled_at;
 use schemas::{Accepted, gates_rise_in_date};
 use serde_json::Value;
 use std::alloc::Global;
+use std::process::Abort;
 use std::test::Fail;
 
 const WIDGETS: &str = r#"
@@ -41,13 +44,17 @@ fn accepted(alloc: Global) -> Result<Accepted, Fail> {
     }
 }
 
-// The view of the release 1.k with empty flag texts.
-fn view_at(alloc: Global, k: u16) -> Result<View, Fail> {
+fn release(word: &str) -> Result<Minor, Fail> {
+    match word.parse::<u16>() {
+        Ok(k) => Ok(from_number(k).ok_or("no release")?),
+        Err(_) => Err(Fail::from("no number")),
+    }
+}
+
+// The view of the release with empty flag texts.
+fn view_of(alloc: Global, e: Minor) -> Result<View, Fail> {
     let accepted = accepted(alloc)?;
-    let e = from_number(k).ok_or("release")?;
-    let first = accepted.first();
-    let last = accepted.last();
-    if e < first || last < e {
+    if e < accepted.first() || accepted.last() < e {
         return Err(Fail::from("out of range"));
     }
     let history = accepted.history();
@@ -69,91 +76,191 @@ fn text_of(alloc: Global, page: Option<Value>) -> Result<String, Fail> {
     }
 }
 
+fn found(there: bool) -> &'static str {
+    if there { "found" } else { "none" }
+}
+
+fn yes(is_so: bool) -> &'static str {
+    if is_so { "yes" } else { "no" }
+}
+
+fn metrics_text(alloc: Global, view: &View) -> Result<String, Fail> {
+    let page = metrics(alloc, view)?;
+    match str::from_utf8(page.bytes()) {
+        Ok(text) => Ok(String::from_str(alloc, text)?),
+        Err(_) => Err(Fail::from("no text")),
+    }
+}
+
+fn page(
+    alloc: Global,
+    view: &View,
+    what: &str,
+    group_name: &str,
+    version: &str,
+) -> Result<String, Fail> {
+    let name = group_name.as_bytes();
+    match what {
+        "groups" => text_of(alloc, Some(group_list(alloc, view)?)),
+        "group" => text_of(alloc, group(alloc, view, name)?),
+        "resources" => text_of(alloc, resource_list(alloc, view, name, version.as_bytes())?),
+        "metrics" => metrics_text(alloc, view),
+        _ => Err(Fail::from("no page")),
+    }
+}
+
+/// The page that the words ask for, or `none`.
+fn asked_page(alloc: Global, words: &str) -> Result<String, Fail> {
+    let mut words = words.split_whitespace();
+    let e = release(words.next().unwrap_or(""))?;
+    let what = words.next().unwrap_or("");
+    let group = words.next().unwrap_or("");
+    let version = words.next().unwrap_or("");
+    page(alloc, &view_of(alloc, e)?, what, group, version)
+}
+
+fn pages(rt: &impl Abort, alloc: Global, cases: &[(&str, &str)]) -> Result<(), Fail> {
+    for (words, want) in cases {
+        let got = asked_page(alloc, words)?;
+        assert_eq!(rt; got.as_str(), *want, "{words}");
+    }
+    Ok(())
+}
+
 #[test]
 fn groups_of_a_release(rt: HostRuntime) -> Result<(), Fail> {
-    let alloc = rt.alloc();
-    let page = group_list(alloc, &view_at(alloc, 33)?)?;
-    assert_eq!(rt;
-        page.to_string(alloc)?.as_str(),
-        r#"{"apiVersion":"v1","groups":[{"name":"demo.example","preferredVersion":{"groupVersion":"demo.example/v1","version":"v1"},"versions":[{"groupVersion":"demo.example/v1","version":"v1"}]}],"kind":"APIGroupList"}"#
-    );
-    let view = view_at(alloc, 30)?;
-    let page = group_list(alloc, &view)?;
-    assert_eq!(rt;
-        page.to_string(alloc)?.as_str(),
-        r#"{"apiVersion":"v1","groups":[{"name":"demo.example","preferredVersion":{"groupVersion":"demo.example/v1","version":"v1"},"versions":[{"groupVersion":"demo.example/v1","version":"v1"},{"groupVersion":"demo.example/v1beta1","version":"v1beta1"}]}],"kind":"APIGroupList"}"#
-    );
-    let page = group(alloc, &view, b"demo.example")?;
-    assert_eq!(rt;
-        text_of(alloc, page)?.as_str(),
-        r#"{"apiVersion":"v1","kind":"APIGroup","name":"demo.example","preferredVersion":{"groupVersion":"demo.example/v1","version":"v1"},"versions":[{"groupVersion":"demo.example/v1","version":"v1"},{"groupVersion":"demo.example/v1beta1","version":"v1beta1"}]}"#
-    );
-    assert!(rt; group(alloc, &view, b"other")?.is_none());
-    assert!(rt; group(alloc, &view, b"")?.is_none());
-    Ok(())
+    pages(
+        &rt,
+        rt.alloc(),
+        &[
+            (
+                "33 groups",
+                r#"{"apiVersion":"v1","groups":[{"name":"demo.example","preferredVersion":{"groupVersion":"demo.example/v1","version":"v1"},"versions":[{"groupVersion":"demo.example/v1","version":"v1"}]}],"kind":"APIGroupList"}"#,
+            ),
+            (
+                "30 groups",
+                r#"{"apiVersion":"v1","groups":[{"name":"demo.example","preferredVersion":{"groupVersion":"demo.example/v1","version":"v1"},"versions":[{"groupVersion":"demo.example/v1","version":"v1"},{"groupVersion":"demo.example/v1beta1","version":"v1beta1"}]}],"kind":"APIGroupList"}"#,
+            ),
+            (
+                "30 group demo.example",
+                r#"{"apiVersion":"v1","kind":"APIGroup","name":"demo.example","preferredVersion":{"groupVersion":"demo.example/v1","version":"v1"},"versions":[{"groupVersion":"demo.example/v1","version":"v1"},{"groupVersion":"demo.example/v1beta1","version":"v1beta1"}]}"#,
+            ),
+            ("30 group other", "none"),
+            // The core group, whose name is empty.
+            ("30 group", "none"),
+        ],
+    )
 }
 
 #[test]
-fn resources_of_a_version(rt: HostRuntime) -> Result<(), Fail> {
-    let alloc = rt.alloc();
-    let view = view_at(alloc, 30)?;
-    let page = resource_list(alloc, &view, b"demo.example", b"v1")?;
-    assert_eq!(rt;
-        text_of(alloc, page)?.as_str(),
-        r#"{"apiVersion":"v1","groupVersion":"demo.example/v1","kind":"APIResourceList","resources":[{"kind":"Widget","name":"widgets","namespaced":true,"singularName":"widget","verbs":["create","delete","get","list","update"]}]}"#
-    );
-    assert!(rt; resource_list(alloc, &view, b"other", b"v1")?.is_none());
-    Ok(())
+fn resources_and_gates(rt: HostRuntime) -> Result<(), Fail> {
+    pages(
+        &rt,
+        rt.alloc(),
+        &[
+            (
+                "30 resources demo.example v1",
+                r#"{"apiVersion":"v1","groupVersion":"demo.example/v1","kind":"APIResourceList","resources":[{"kind":"Widget","name":"widgets","namespaced":true,"singularName":"widget","verbs":["create","delete","get","list","update"]}]}"#,
+            ),
+            ("30 resources other v1", "none"),
+            (
+                "31 metrics",
+                "# HELP kubernetes_feature_enabled Whether a feature gate is on at the emulated version.\n# TYPE kubernetes_feature_enabled gauge\nkubernetes_feature_enabled{name=\"SlowMode\",stage=\"\"} 1\nkubernetes_feature_enabled{name=\"WidgetColor\",stage=\"BETA\"} 1\n",
+            ),
+        ],
+    )
 }
 
 #[test]
-fn gates_and_releases(rt: HostRuntime) -> Result<(), Fail> {
+fn releases_of_a_server(rt: HostRuntime) -> Result<(), Fail> {
     let alloc = rt.alloc();
-    let page = metrics(alloc, &view_at(alloc, 31)?)?;
-    let want =
-        "# HELP kubernetes_feature_enabled Whether a feature gate is on at the emulated version.\n# TYPE kubernetes_feature_enabled gauge\nkubernetes_feature_enabled{name=\"SlowMode\",stage=\"\"} 1\nkubernetes_feature_enabled{name=\"WidgetColor\",stage=\"BETA\"} 1\n";
-    assert_eq!(rt; page.bytes(), want.as_bytes());
-    let release = from_number(33).ok_or("release")?;
-    let emulated = from_number(30).ok_or("release")?;
-    let page = version_info(alloc, release, emulated, emulated)?;
+    let emulated = release("30")?;
+    let page = version_info(alloc, release("33")?, emulated, emulated)?;
+    let text = page.to_string(alloc)?;
     assert_eq!(rt;
-        page.to_string(alloc)?.as_str(),
+        text.as_str(),
         r#"{"emulation":"1.30","minCompatibility":"1.30","release":"1.33"}"#
     );
     Ok(())
 }
 
-fn widgets<'a>(version: &'a [u8]) -> ApiName<'a> {
+fn widgets<'a>(version: &'a str) -> ApiName<'a> {
     ApiName {
         group: b"demo.example",
-        version,
+        version: version.as_bytes(),
         resource: b"widgets",
     }
+}
+
+fn best(alloc: Global, view: &View) -> Result<String, Fail> {
+    match view.live_best(b"demo.example", b"widgets") {
+        Some(best) => Ok(String::from_str(alloc, best.version.as_str())?),
+        None => Ok(String::from_str(alloc, "none")?),
+    }
+}
+
+fn warning(alloc: Global, view: &View, version: &str) -> Result<String, Fail> {
+    match view.warning(widgets(version)) {
+        Some(warning) => {
+            let since = warning.since.number();
+            let removal = warning.removal.number();
+            let Ok(replacement) = str::from_utf8(warning.replacement) else {
+                return Err(Fail::from("no text"));
+            };
+            Ok(format!(in alloc; "{since} {removal} {replacement}")?)
+        }
+        None => Ok(String::from_str(alloc, "none")?),
+    }
+}
+
+fn gate(view: &View, name: &str) -> &'static str {
+    match view.gates().value(name.as_bytes()) {
+        Some(is_on) => yes(is_on),
+        None => "none",
+    }
+}
+
+fn looked_up(alloc: Global, view: &View, what: &str, of: &str) -> Result<String, Fail> {
+    let answer = match what {
+        "release" => return Ok(format!(in alloc; "{}", view.minor().number())?),
+        "served" => return Ok(format!(in alloc; "{}", view.served().len())?),
+        "best" => return best(alloc, view),
+        "warning" => return warning(alloc, view, of),
+        "find" => found(view.find(widgets(of)).is_some()),
+        "table" => found(view.table(widgets(of)).is_some()),
+        "live" => yes(view.kind_live(b"demo.example", of.as_bytes())),
+        "gate" => gate(view, of),
+        _ => return Err(Fail::from("no look-up")),
+    };
+    Ok(String::from_str(alloc, answer)?)
 }
 
 #[test]
 fn look_ups_of_a_view(rt: HostRuntime) -> Result<(), Fail> {
     let alloc = rt.alloc();
-    let view = view_at(alloc, 33)?;
-    assert_eq!(rt; view.minor().number(), 33);
-    assert_eq!(rt; view.served().len(), 1);
-    assert!(rt; view.find(widgets(b"v1beta1")).is_none());
-    assert!(rt; view.table(widgets(b"v1beta1")).is_some());
-    assert!(rt; view.kind_live(b"demo.example", b"gadgets"));
-    assert_eq!(rt; view.gates().value(b"SlowMode"), Some(true));
-    let view = view_at(alloc, 30)?;
-    assert!(rt; view.find(widgets(b"v1beta1")).is_some());
-    assert!(rt; !view.kind_live(b"demo.example", b"gadgets"));
-    let Some(best) = view.live_best(b"demo.example", b"widgets") else {
-        return Err(Fail::from("not live"));
-    };
-    assert_eq!(rt; best.version.as_str(), "v1");
-    let Some(warning) = view.warning(widgets(b"v1beta1")) else {
-        return Err(Fail::from("no warning"));
-    };
-    assert_eq!(rt; warning.since.number(), 30);
-    assert_eq!(rt; warning.removal.number(), 33);
-    assert_eq!(rt; warning.replacement, b"v1".as_slice());
-    assert!(rt; view.warning(widgets(b"v1")).is_none());
+    for (words, want) in [
+        ("33 release", "33"),
+        ("33 served", "1"),
+        ("33 find v1beta1", "none"),
+        ("33 table v1beta1", "found"),
+        ("33 live gadgets", "yes"),
+        ("33 gate SlowMode", "yes"),
+        ("30 find v1beta1", "found"),
+        ("30 live gadgets", "no"),
+        ("30 best", "v1"),
+        ("30 warning v1beta1", "30 33 v1"),
+        ("30 warning v1", "none"),
+    ] {
+        let got = answer(alloc, words)?;
+        assert_eq!(rt; got.as_str(), want, "{words}");
+    }
     Ok(())
+}
+
+fn answer(alloc: Global, words: &str) -> Result<String, Fail> {
+    let mut words = words.split_whitespace();
+    let e = release(words.next().unwrap_or(""))?;
+    let what = words.next().unwrap_or("");
+    let of = words.next().unwrap_or("");
+    looked_up(alloc, &view_of(alloc, e)?, what, of)
 }
