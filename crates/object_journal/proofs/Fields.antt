@@ -1,5 +1,5 @@
 -- A number or a text behind its length is read again, and a payload is that of one entry.
-use Rattle.std.proofs.Common.{◌≡◌, ℕ, ◌^◌, ◌<◌, ◌≤◌, List, ◌++◌, length, take, drop, refl, sym, ap, subst, ◌∙◌, append_assoc, arith, if◌then◌else◌}
+use Rattle.std.proofs.Common.{◌≡◌, ℕ, ◌^◌, ◌-◌, ◌<◌, ◌≤◌, List, [], ◌∷◌, ◌++◌, length, take, drop, refl, sym, ap, subst, ◌∙◌, append_assoc, length-append, arith, if◌then◌else◌}
 use Rattle.std.specs.Prelude.{◌==◌}
 use Rattle.std.specs.Int.{w16, w64, from_be_bytes}
 use Rattle.std.proofs.lemmas.List.{take_at, drop_at}
@@ -9,7 +9,7 @@ use Rattle.object_journal.specs.declared.entry.Entry.{Entry}
 use Rattle.object_journal.specs.declared.entry.Change.{Change}
 use Rattle.object_journal.specs.declared.entry.Change.TheVariants.{Put, Removal}
 use Rattle.object_journal.specs.Payload.{HasShortTexts, longest_payload, payload_of, frame_bytes, tag_of, created_of, body_of, text_field, key_fields}
-use Rattle.object_journal.specs.Frames.{IsFrame, entry_of, entry_in, text_at, behind_text, key_at, behind_key}
+use Rattle.object_journal.specs.Frames.{IsFrame, closed_gate, entry_of, entry_in, text_at, behind_text, key_at, behind_key}
 
 -- ---- texts
 
@@ -76,10 +76,13 @@ entry_again e fits =
     let ch = change_again e.change _ _ c b in
     λ i. record { key = k i; revision = r i; change = ch i }
 
-pub entry_of_frame : (e : Entry) (bytes : List ℕ) → Fits e → bytes ≡ frame_bytes e → entry_of bytes ≡ e
-entry_of_frame e bytes fits is = ap entry_of is ∙ entry_again e fits
+front_of : (bytes : List ℕ) (x : ℕ) → take (length (bytes ++ x ∷ []) - 1) (bytes ++ x ∷ []) ≡ bytes
+front_of bytes x = take_at bytes (x ∷ []) (length (bytes ++ x ∷ []) - 1) (omega (arith, length-append bytes (x ∷ [])))
 
-pub is_frame_of : (e : Entry) (bytes : List ℕ) → HasShortTexts e.key → e.revision < 2 ^ 64 → created_of e.change < 2 ^ 64 → bytes ≡ frame_bytes e → length (payload_of e) ≤ longest_payload → IsFrame (entry_of bytes) bytes
+pub entry_of_frame : (e : Entry) (bytes : List ℕ) → Fits e → bytes ≡ frame_bytes e ++ closed_gate ∷ [] → entry_of bytes ≡ e
+entry_of_frame e bytes fits is = ap entry_of is ∙ ap (λ (t : List ℕ). entry_in (drop 4 t)) (front_of (frame_bytes e) closed_gate) ∙ entry_again e fits
+
+pub is_frame_of : (e : Entry) (bytes : List ℕ) → HasShortTexts e.key → e.revision < 2 ^ 64 → created_of e.change < 2 ^ 64 → bytes ≡ frame_bytes e ++ closed_gate ∷ [] → length (payload_of e) ≤ longest_payload → IsFrame (entry_of bytes) bytes
 is_frame_of e bytes short revision created is within =
     let seen = entry_of_frame e bytes (record { short = short; revision = revision; created = created }) is in
     subst (λ (x : Entry). IsFrame x bytes) (sym seen) (record { bytes_are = is; short = short; within = within })

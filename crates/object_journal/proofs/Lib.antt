@@ -6,3 +6,7 @@ mod PartLemmas
 mod HeldLemmas
 mod RuleLemmas
 mod ReaderLemmas
+mod StopLemmas
+mod AppendLemmas
+mod MendLemmas
+mod OpenLemmas

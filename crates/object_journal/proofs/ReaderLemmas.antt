@@ -94,7 +94,7 @@ goes_on r s bytes place next h opened a =
       within = omega (arith, a.within, length-drop (place + 1) bytes, h.within);
     }
 
-one_left : (l : List ℕ) → length l ≡ 1 → l ≡ get_or l 0 0 ∷ []
+pub one_left : (l : List ℕ) → length l ≡ 1 → l ≡ get_or l 0 0 ∷ []
 one_left [] size = absurd (omega (arith, size))
 one_left (a ∷ []) size = refl
 one_left (a ∷ b ∷ l) size = absurd (omega (arith, size))

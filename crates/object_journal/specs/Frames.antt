@@ -1,5 +1,5 @@
 -- How a frame is seen: as the entry that its payload tells.
-use Rattle.std.specs.Prelude.{◌≡◌, ℕ, ◌≤◌, ◌==◌, if◌then◌else◌, List, length, get_or, take, drop}
+use Rattle.std.specs.Prelude.{◌≡◌, ℕ, ◌-◌, ◌≤◌, ◌==◌, if◌then◌else◌, List, [], ◌∷◌, ◌++◌, length, get_or, take, drop}
 use Rattle.std.specs.Int.{w16, w64, from_be_bytes}
 use Rattle.object_journal.specs.declared.key.Key.{Key}
 use Rattle.object_journal.specs.declared.entry.Entry.{Entry}
@@ -31,11 +31,16 @@ entry_in payload = record {
   change = if get_or payload 0 0 == 0 then Put (from_be_bytes w64 (take 8 (drop 9 payload))) (behind_key (drop 17 payload)) else Removal;
 }
 
-abbrev pub entry_of : List ℕ → Entry
-entry_of bytes = entry_in (drop 4 bytes)
+-- the product writes this byte for a closed gate
+abbrev pub closed_gate : ℕ
+closed_gate = 0
 
--- the bytes are length and payload of the entry, which are within their limits
+-- of bytes with a gate at their end
+abbrev pub entry_of : List ℕ → Entry
+entry_of bytes = entry_in (drop 4 (take (length bytes - 1) bytes))
+
+-- the bytes are length and payload of the entry, which are within their limits, and a closed gate
 pub record IsFrame (e : Entry) (bytes : List ℕ) : Type 0 where
-  pub bytes_are : bytes ≡ frame_bytes e
+  pub bytes_are : bytes ≡ frame_bytes e ++ closed_gate ∷ []
   pub short : HasShortTexts e.key
   pub within : length (payload_of e) ≤ longest_payload

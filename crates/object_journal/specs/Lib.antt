@@ -5,3 +5,4 @@ pub mod KeyOrder
 pub mod Parts
 pub mod HeldKeys
 pub mod Readings
+pub mod Standing

@@ -1,6 +1,6 @@
-ghost use Rattle.std.specs.Prelude.{◌≡◌, ◌↔◌, ◌<◌, ◌≤◌, ◌^◌, ◌++◌, length, IfOk, OnOk, IsErrOf};
+ghost use Rattle.std.specs.Prelude.{◌≡◌, ◌↔◌, ◌<◌, ◌≤◌, ◌^◌, ◌++◌, [], ◌∷◌, length, IfOk, OnOk, IsErrOf};
 ghost use Rattle.object_journal.specs.Payload.{HasShortTexts, longest_payload, payload_of, frame_bytes, tag_of, created_of, number_fields, key_fields, text_field, body_of};
-ghost use Rattle.object_journal.specs.Frames.{IsFrame};
+ghost use Rattle.object_journal.specs.Frames.{IsFrame, closed_gate};
 
 use crate::entry::{Change, Entry};
 use crate::key::Key;
@@ -11,6 +11,9 @@ use std::fmt;
 use std::marker::Model;
 
 pub(crate) const LONGEST_PAYLOAD: usize = 1_048_576;
+
+/// Any byte but that of an open gate closes one. The product writes this one.
+pub(crate) const CLOSED_GATE: u8 = 0;
 
 /// Why an entry has no frame.
 #[derive(Clone, Copy, Debug, PartialEq, Eq)]
@@ -35,11 +38,13 @@ impl Error for FrameFault {}
 /// The bytes of a record, seen as its entry.
 #[derive(Debug, Drop)]
 pub struct Framed {
-    // The length of the payload, and the payload.
+    // The length of the payload, the payload, and a closed gate, so that one write puts all of it.
     bytes: Vec<u8>,
+    revision: u64,
 }
 
 impl Model for Framed {
+    ghost use Rattle.std.specs.Prelude.{◌≡◌};
     ghost use Rattle.object_journal.specs.declared.entry.Entry.{Entry};
     ghost use Rattle.object_journal.specs.Frames.{IsFrame, entry_of};
 
@@ -47,15 +52,24 @@ impl Model for Framed {
 
     ghost view = { λ f. entry_of f.bytes.items };
 
-    ghost invariant = { λ f. IsFrame (entry_of f.bytes.items) f.bytes.items };
+    ghost invariant = { λ f. record {
+      frame : IsFrame (entry_of f.bytes.items) f.bytes.items;
+      revision : f.revision ≡ (entry_of f.bytes.items).revision;
+    } };
 }
 
 impl Framed {
-    // The length of the payload, and the payload.
+    // The length of the payload, the payload, and a closed gate.
     pub(crate) fn bytes(&self) -> &[u8]
         ensures { IsFrame self.now result.now }
     {
         self.bytes.as_slice()
+    }
+
+    pub(crate) fn revision(&self) -> u64
+        ensures { result ≡ self.now.revision }
+    {
+        self.revision
     }
 }
 
@@ -140,15 +154,16 @@ fn put_body(bytes: &mut Vec<u8>, change: &Change) -> Result<(), Memory>
 fn frame_of(alloc: Global, entry: &Entry, size: u32) -> Result<Vec<u8>, Memory>
     requires short { HasShortTexts entry.now.key }
     requires size { size ≡ length (payload_of entry.now) }
-    ensures frame { IfOk result (λ v. v.items ≡ frame_bytes entry.now) }
+    ensures frame { IfOk result (λ v. v.items ≡ frame_bytes entry.now ++ closed_gate ∷ []) }
     ensures fits { OnOk result ((entry.now.revision < 2 ^ 64) × (created_of entry.now.change < 2 ^ 64)) }
 {
-    let mut bytes = Vec::with_capacity(alloc, 4 + size as usize)?;
+    let mut bytes = Vec::with_capacity(alloc, 5 + size as usize)?;
     bytes.extend_from_slice(&size.to_be_bytes())?;
     let created = created(&entry.change);
     put_numbers(&mut bytes, tag(&entry.change), entry.revision, created)?;
     put_key(&mut bytes, &entry.key)?;
     put_body(&mut bytes, &entry.change)?;
+    bytes.push(CLOSED_GATE)?;
     Ok(bytes)
 }
 
@@ -163,7 +178,10 @@ pub fn frame(alloc: Global, entry: &Entry) -> Result<Framed, FrameFault>
         return Err(FrameFault::TooLong);
     }
     match frame_of(alloc, entry, size as u32) {
-        Ok(bytes) => Ok(Framed { bytes }),
+        Ok(bytes) => Ok(Framed {
+            bytes,
+            revision: entry.revision,
+        }),
         Err(_) => Err(FrameFault::Memory),
     }
 }

@@ -11,7 +11,7 @@ use crate::rules::LAST_REVISION;
 use std::alloc::Global;
 use std::collections::BTreeSet;
 
-const OPEN_GATE: u8 = 0x4f;
+pub(crate) const OPEN_GATE: u8 = 0x4f;
 
 /// Why bytes are no journal.
 #[derive(Clone, Copy, Debug, PartialEq, Eq)]

@@ -1,0 +1,123 @@
+-- What mending leaves of a short file.
+use Rattle.std.proofs.Common.{◌≡◌, ◌⊎◌, inl, inr, ⊎_elim, ℕ, ◌+◌, ◌≤◌, ◌<◌, List, [], ◌∷◌, ◌++◌, length, get_or, take, drop, refl, sym, ap, subst, ◌∙◌, length-append, length-drop, arith}
+use Rattle.std.proofs.lemmas.List.{take-append-drop}
+use Rattle.disk.specs.declared.file.File.{File}
+use Rattle.disk.specs.Images.{Pending, Images, IsImage, after_write, resting}
+use Rattle.disk.specs.Moments.{Moments}
+use Rattle.disk.specs.ImageLaws.{front_after_write, reached_most, goes_on, weaker}
+use Rattle.object_journal.specs.declared.entry.Entry.{Entry}
+use Rattle.object_journal.specs.Payload.{frame_bytes}
+use Rattle.object_journal.specs.Journal.{IsHeader, IsGated, IsJournal, IsRefusal, last_revision, header_of, records_of, open_gate}
+use Rattle.object_journal.specs.Standing.{chosen, OthersStay, OthersMayBe, LeavesWrite, IsHeaded, LeavesNone, MeansSame, LeavesMeaning}
+use Rattle.object_journal.proofs.Readings.{one_reading, long_header}
+use Rattle.object_journal.proofs.Refusals.{reads_or_breaks}
+use Rattle.object_journal.proofs.ReaderLemmas.{one_left}
+use Rattle.object_journal.proofs.StopLemmas.{others_back}
+
+-- ---- short files
+
+-- a file of at most 17 bytes has no records
+pub no_entries : (b : List ℕ) (base : ℕ) (es : List Entry) → length b ≤ 17 → IsJournal b base es → es ≡ []
+no_entries b base es short (inl j) = j.2
+no_entries b base es short (inr (inl j)) = j.1
+no_entries b base [] short (inr (inr j)) = refl
+no_entries b base (e ∷ es) short (inr (inr j)) = absurd (omega (
+  arith,
+  short,
+  ap length j.parts,
+  length-append (records_of (e ∷ es)) (j.gate ∷ j.behind),
+  length-append (open_gate ∷ frame_bytes e) (records_of es),
+))
+
+none_behind : (l : List ℕ) → length l ≡ 0 → l ≡ []
+none_behind [] size = refl
+none_behind (a ∷ l) size = absurd (omega (arith, size))
+
+gated_header : (b : List ℕ) (base : ℕ) (es : List Entry) → length b ≡ 17 → es ≡ [] → IsGated b base es → IsHeader b base
+gated_header b base es size none j =
+    let parts : b ≡ header_of base ++ j.gate ∷ j.behind = j.parts ∙ ap (λ (xs : List Entry). header_of base ++ (records_of xs ++ j.gate ∷ j.behind)) none in
+    record {
+      gate = j.gate;
+      parts = parts ∙ ap (λ (t : List ℕ). header_of base ++ j.gate ∷ t) (none_behind j.behind (omega (arith, ap length parts, size)));
+      base_fits = j.base_fits;
+    }
+
+-- one of 17 has a header and a gate
+pub headed_gate : (b : List ℕ) (base : ℕ) (es : List Entry) → length b ≡ 17 → IsJournal b base es → IsHeaded b base
+headed_gate b base es size (inl j) = absurd (omega (arith, j.0, size))
+headed_gate b base es size (inr (inl j)) = inr j.0
+headed_gate b base es size (inr (inr j)) = inr (gated_header b base es size (no_entries b base es (omega (arith, size)) (inr (inr j))) j)
+
+-- one of less has base 0
+pub fresh_base : (b : List ℕ) (base : ℕ) (es : List Entry) → length b ≤ 16 → IsJournal b base es → base ≡ 0
+fresh_base b base es short (inl j) = j.1
+fresh_base b base es short (inr (inl j)) = absurd (omega (arith, short, long_header b base j.0))
+fresh_base b base es short (inr (inr j)) = absurd (omega (arith, short, ap length j.parts, length-append (records_of es) (j.gate ∷ j.behind)))
+
+-- bytes that mean what others mean, where these have no records
+pub same_none : (b c : List ℕ) (base : ℕ) (es : List Entry) → IsJournal b base es → es ≡ [] → IsJournal c base [] → MeansSame b c
+same_none b c base es j none now = record {
+  means = λ base2 es2 k.
+    let same = one_reading b base base2 es es2 j k in
+    subst (λ (p : ℕ × List Entry). IsJournal c p.0 p.1) (λ i. (same.base i, (sym none ∙ same.entries) i)) now;
+  refused = λ place r. absurd (reads_or_breaks b base place es j r);
+}
+
+-- ---- images
+
+headed_front : (b : List ℕ) (base : ℕ) → IsHeaded b base → take 16 b ≡ header_of base
+headed_front b base (inl h) = ap (λ (t : List ℕ). take 16 t) h.0 ∙ ap header_of (sym h.1)
+headed_front b base (inr h) = ap (λ (t : List ℕ). take 16 t) h.parts
+
+headed_fits : (b : List ℕ) (base : ℕ) → IsHeaded b base → base ≤ last_revision
+headed_fits b base (inl h) = omega (arith, h.1)
+headed_fits b base (inr h) = h.base_fits
+
+headed_size : (b : List ℕ) (base : ℕ) → IsHeaded b base → (length b ≡ 17) ⊎ ((length b ≡ 16) × (base ≡ 0))
+headed_size b base (inl h) = inr (ap length h.0, h.1)
+headed_size b base (inr h) = inl (ap length h.parts)
+
+size_cases : (n b : ℕ) → b ≤ n → n ≤ 17 → 16 ≤ b → (n ≡ 17) ⊎ ((n ≡ 16) × (b ≡ 16))
+size_cases n b low high least = grind arith
+
+pub image_of_first_gate : (b c : List ℕ) (base : ℕ) → IsHeaded b base → IsImage (after_write 16 1 (resting b)) c → IsJournal c base []
+image_of_first_gate b c base h image =
+    let least : 16 ≤ length b = ⊎_elim (λ (l : length b ≡ 17). omega (arith, l)) (λ s. omega (arith, s.0)) (headed_size b base h) in
+    let most : length c ≤ 17 = ⊎_elim (λ (l : length b ≡ 17). omega (arith, l, image.no_longer, reached_most 16 1 (length b))) (λ s. omega (arith, s.0, image.no_longer, reached_most 16 1 (length b))) (headed_size b base h) in
+    let front : take 16 c ≡ header_of base = front_after_write 16 1 16 b c image (omega arith) least ∙ headed_front b base h in
+    ⊎_elim
+      (λ (long : length c ≡ 17). inr (inl (record {
+        gate = get_or (drop 16 c) 0 0;
+        parts = sym (take-append-drop 16 c) ∙ (λ i. front i ++ one_left (drop 16 c) (omega (arith, length-drop 16 c, long)) i);
+        base_fits = headed_fits b base h;
+      }, refl)))
+      (λ short. inl (omega (arith, short.0), ⊎_elim (λ (l : length b ≡ 17). absurd (omega (arith, l, short.1))) (λ s. s.1) (headed_size b base h), refl))
+      (size_cases (length c) (length b) image.no_shorter most least)
+
+-- ---- moments
+
+module _ {D : Type 0} (clock : D → ℕ) (may_leave : D → ℕ → Images → Type 0) (held : D → Images) (pending : D → File → Pending) where
+  pub first_gate_moments : (old new : D) (base : ℕ) → IsHeaded (held old chosen) base
+      → Moments clock may_leave old new (λ _. LeavesWrite (held old) (pending old) 16 1) → Moments clock may_leave old new (λ _. LeavesNone (pending old) base)
+  first_gate_moments old new base h m = weaker clock may_leave old new _ _ (λ t i above le w. record { file = image_of_first_gate (held old chosen) (i chosen) base h w.file; others = w.others }) m
+
+  pub none_moments : (old new : D) (base : ℕ) (es : List Entry) → length (held old chosen) ≤ 17 → IsJournal (held old chosen) base es
+      → Moments clock may_leave old new (λ _. LeavesNone (pending old) base) → Moments clock may_leave old new (λ _. LeavesMeaning (held old) (pending old))
+  none_moments old new base es short j m = weaker clock may_leave old new _ _ (λ t i above le w. record { file = same_none (held old chosen) (i chosen) base es j (no_entries (held old chosen) base es short j) w.file; others = w.others }) m
+
+  pub gate_alone_moments : (old new : D) (base : ℕ) (es : List Entry) → length (held old chosen) ≡ 17 → IsJournal (held old chosen) base es
+      → ((b : ℕ) → IsHeaded (held old chosen) b → Moments clock may_leave old new (λ _. LeavesNone (pending old) b)) → Moments clock may_leave old new (λ _. LeavesMeaning (held old) (pending old))
+  gate_alone_moments old new base es size j m = none_moments old new base es (omega (arith, size)) j (m base (headed_gate (held old chosen) base es size j))
+
+  at_zero : (old new : D) (base : ℕ) → base ≡ 0 → Moments clock may_leave old new (λ _. LeavesNone (pending old) 0) → Moments clock may_leave old new (λ _. LeavesNone (pending old) base)
+  at_zero old new base is m = subst (λ (b : ℕ). Moments clock may_leave old new (λ _. LeavesNone (pending old) b)) (sym is) m
+
+  pub header_moments : (old new : D) (base : ℕ) (es : List Entry) → length (held old chosen) ≤ 16 → IsJournal (held old chosen) base es
+      → Moments clock may_leave old new (λ _. LeavesNone (pending old) 0) → Moments clock may_leave old new (λ _. LeavesMeaning (held old) (pending old))
+  header_moments old new base es short j m = none_moments old new base es (omega (arith, short)) j (at_zero old new base (fresh_base (held old chosen) base es short j) m)
+
+  pub fresh_moments : (old mid new : D) (base : ℕ) (es : List Entry) → length (held old chosen) ≤ 16 → IsJournal (held old chosen) base es → OthersStay (held old) (held mid) (pending old) (pending mid)
+      → Moments clock may_leave old mid (λ _. LeavesNone (pending old) 0) → Moments clock may_leave mid new (λ _. LeavesNone (pending mid) 0)
+      → Moments clock may_leave old new (λ _. LeavesMeaning (held old) (pending old))
+  fresh_moments old mid new base es short j stay first second = header_moments old new base es short j
+      (goes_on clock may_leave old mid new _ first (weaker clock may_leave mid new _ _ (λ t i above le w. record { file = w.file; others = others_back _ _ _ _ i stay w.others }) second))

@@ -1,0 +1,178 @@
+//! Opening the journal on a disk.
+ghost use Rattle.std.specs.Prelude.{◌≡◌, ◌≤◌, ◌<◌, ◌+◌, ℕ, List, [], ◌∷◌, ◌++◌, length, IfOk, OnOk, IsErrOf};
+ghost use Rattle.basis.specs.Counts.{HasCause, Rose};
+ghost use Rattle.disk.specs.Images.{Images, IsStill, end_of_lengths};
+ghost use Rattle.disk.specs.Moments.{Moments, Unchanged};
+ghost use Rattle.disk.specs.declared.file.File.{File as FileS};
+ghost use Rattle.object_journal.specs.declared.entry.Entry.{Entry};
+ghost use Rattle.object_journal.specs.declared.opening.OpenFault.TheVariants.{NotAStore};
+ghost use Rattle.object_journal.specs.Frames.{closed_gate};
+ghost use Rattle.object_journal.specs.Journal.{IsJournal, IsRefusal, last_revision, header_of};
+ghost use Rattle.object_journal.specs.Standing.{chosen, StandsOn, OthersStay, IsHeaded, IsMended, LeavesNone, LeavesMeaning, OpensOver};
+
+use crate::appending::Journal;
+use crate::entry::Entries;
+use crate::framed::CLOSED_GATE;
+use crate::put::{CHOSEN, put_still};
+use crate::reader::{ReadFault, read_journal};
+use disk::{Disk, Failed, File};
+use std::alloc::Global;
+use std::error::Error;
+use std::fmt;
+
+/// Why no journal is opened.
+#[derive(Clone, Copy, Debug, PartialEq, Eq)]
+pub enum OpenFault {
+    /// The bytes of the file break the grammar at this place.
+    NotAStore {
+        /// The file.
+        file: File,
+        /// The place.
+        at: u64,
+    },
+    /// The disk failed.
+    Disk,
+    /// Memory ran out.
+    Memory,
+}
+
+impl fmt::Display for OpenFault {
+    fn fmt<W: fmt::Write>(&self, f: &mut fmt::Formatter<W>) -> fmt::Result {
+        f.write_str(match self {
+            OpenFault::NotAStore { .. } => "not a store",
+            OpenFault::Disk => "the disk failed",
+            OpenFault::Memory => "out of memory",
+        })
+    }
+}
+
+impl Error for OpenFault {}
+
+// Puts the header of a fresh file.
+fn put_header<D: Disk>(disk: &mut D) -> Result<(), Failed>
+    requires fresh { D.tells → length (D.held disk.old chosen) ≤ 16 }
+    requires still { D.tells → IsStill (D.held disk.old) (D.pending disk.old) chosen }
+    ensures written { D.tells → OnOk result (D.held disk.new chosen ≡ header_of 0) }
+    ensures still { D.tells → OnOk result (IsStill (D.held disk.new) (D.pending disk.new) chosen) }
+    ensures time { D.tells → Moments D.clock D.may_leave disk.old disk.new (λ _. LeavesNone (D.pending disk.old) 0) }
+    ensures others { D.tells → OthersStay (D.held disk.old) (D.held disk.new) (D.pending disk.old) (D.pending disk.new) }
+    ensures beside { D.beside disk.new ≡ D.beside disk.old }
+    ensures cause { HasCause (D.faults disk.old) (D.faults disk.new) result }
+{
+    put_still(disk, 0, b"KEMUJNL1\0\0\0\0\0\0\0\0")
+}
+
+// Puts the first gate behind a header, over the one that may be there.
+fn put_gate<D: Disk>(disk: &mut D) -> Result<(), Failed>
+    requires place { D.tells → 16 ≤ length (D.held disk.old chosen) }
+    requires still { D.tells → IsStill (D.held disk.old) (D.pending disk.old) chosen }
+    ensures written { D.tells → OnOk result ((base : ℕ) → IsHeaded (D.held disk.old chosen) base → D.held disk.new chosen ≡ header_of base ++ closed_gate ∷ []) }
+    ensures still { D.tells → OnOk result (IsStill (D.held disk.new) (D.pending disk.new) chosen) }
+    ensures time { D.tells → (base : ℕ) → IsHeaded (D.held disk.old chosen) base → Moments D.clock D.may_leave disk.old disk.new (λ _. LeavesNone (D.pending disk.old) base) }
+    ensures others { D.tells → OthersStay (D.held disk.old) (D.held disk.new) (D.pending disk.old) (D.pending disk.new) }
+    ensures beside { D.beside disk.new ≡ D.beside disk.old }
+    ensures cause { HasCause (D.faults disk.old) (D.faults disk.new) result }
+{
+    put_still(disk, 16, &[CLOSED_GATE])
+}
+
+// Makes the header and the first gate of a fresh file, or closes the gate behind a header alone.
+fn mend<D: Disk>(disk: &mut D, len: usize) -> Result<(), Failed>
+    requires len { D.tells → len ≡ length (D.held disk.old chosen) }
+    requires still { D.tells → IsStill (D.held disk.old) (D.pending disk.old) chosen }
+    ensures mended { D.tells → OnOk result ((base : ℕ) (entries : List Entry) → IsJournal (D.held disk.old chosen) base entries → IsMended (D.held disk.old chosen) base (D.held disk.new chosen)) }
+    ensures still { D.tells → OnOk result (IsStill (D.held disk.new) (D.pending disk.new) chosen) }
+    ensures time { D.tells → (base : ℕ) (entries : List Entry) → IsJournal (D.held disk.old chosen) base entries → Moments D.clock D.may_leave disk.old disk.new (λ _. LeavesMeaning (D.held disk.old) (D.pending disk.old)) }
+    ensures others { D.tells → OthersStay (D.held disk.old) (D.held disk.new) (D.pending disk.old) (D.pending disk.new) }
+    ensures beside { D.beside disk.new ≡ D.beside disk.old }
+    ensures cause { HasCause (D.faults disk.old) (D.faults disk.new) result }
+{
+    if len > 17 {
+        return Ok(());
+    }
+    if len == 17 {
+        return put_gate(disk);
+    }
+    put_header(disk)?;
+    put_gate(disk)
+}
+
+// The bytes of the file.
+fn read_whole<D: Disk>(alloc: Global, disk: &mut D) -> Result<Vec<u8>, OpenFault>
+    ensures bytes { D.tells → IfOk result (λ v. v.items ≡ D.held disk.old chosen) }
+    ensures short { IfOk result (λ v. length v.items < end_of_lengths) }
+    ensures same { D.tells → Unchanged (D.held disk.old) (D.held disk.new) (D.pending disk.old) (D.pending disk.new) (D.clock disk.old) (D.may_leave disk.old) (D.may_leave disk.new) }
+    ensures clock { D.clock disk.new ≡ D.clock disk.old }
+    ensures beside { D.beside disk.new ≡ D.beside disk.old }
+    ensures later { D.faults disk.old ≤ D.faults disk.new }
+    ensures disk { IsErrOf result OpenFault.Disk → Rose (D.faults disk.old) (D.faults disk.new) }
+    ensures sound { (file : FileS) (at : ℕ) → ¬ IsErrOf result (NotAStore file at) }
+{
+    let Ok(len) = disk.len(CHOSEN) else {
+        return Err(OpenFault::Disk);
+    };
+    let mut bytes = Vec::new(alloc);
+    let Ok(()) = bytes.resize(len as usize, 0) else {
+        return Err(OpenFault::Memory);
+    };
+    match disk.read_at(CHOSEN, 0, bytes.as_mut_slice()) {
+        Ok(()) => Ok(bytes),
+        Err(Failed) => Err(OpenFault::Disk),
+    }
+}
+
+// The same for a file that is still.
+fn open_still<D: Disk>(alloc: Global, disk: &mut D) -> Result<(Journal, Entries), OpenFault>
+    requires { D.tells → IsStill (D.held disk.old) (D.pending disk.old) chosen }
+    ensures stands { IfOk result (λ r. StandsOn D.tells (D.held disk.new) (D.pending disk.new) r.0 r.1) }
+    ensures means { D.tells → IfOk result (λ r. IsJournal (D.held disk.old chosen) r.0.base r.1) }
+    ensures mended { D.tells → IfOk result (λ r. IsMended (D.held disk.old chosen) r.0.base (D.held disk.new chosen)) }
+    ensures refused { D.tells → (file : FileS) (at : ℕ) → IsErrOf result (NotAStore file at) → (file ≡ chosen) × IsRefusal (D.held disk.old chosen) at × (D.held disk.new ≡ D.held disk.old) }
+    ensures memory { D.tells → IsErrOf result OpenFault.Memory → D.held disk.new ≡ D.held disk.old }
+    ensures time { D.tells → Moments D.clock D.may_leave disk.old disk.new (λ _. LeavesMeaning (D.held disk.old) (D.pending disk.old)) }
+    ensures others { D.tells → OthersStay (D.held disk.old) (D.held disk.new) (D.pending disk.old) (D.pending disk.new) }
+    ensures beside { D.beside disk.new ≡ D.beside disk.old }
+    ensures later { D.faults disk.old ≤ D.faults disk.new }
+    ensures disk { IsErrOf result OpenFault.Disk → Rose (D.faults disk.old) (D.faults disk.new) }
+{
+    let bytes = match read_whole(alloc, disk) {
+        Ok(bytes) => bytes,
+        Err(fault) => return Err(fault),
+    };
+    let (reading, end) = match read_journal(alloc, bytes.as_slice()) {
+        Ok(read) => read,
+        Err(ReadFault::BrokenAt(at)) => return Err(OpenFault::NotAStore { file: CHOSEN, at }),
+        Err(ReadFault::Memory) => return Err(OpenFault::Memory),
+    };
+    let Ok(()) = mend(disk, bytes.len()) else {
+        return Err(OpenFault::Disk);
+    };
+    let journal = Journal {
+        base: reading.base,
+        revision: reading.revision,
+        end: end as u64,
+        ended: false,
+    };
+    Ok((journal, reading.entries))
+}
+
+/// Opens the journal of the disk, with its entries, in order. A fresh file gets its header and first gate, and the gate
+/// behind a header alone is closed; nothing else is written.
+pub fn open_journal<D: Disk>(alloc: Global, disk: &mut D) -> Result<(Journal, Entries), OpenFault>
+    ensures stands { IfOk result (λ r. StandsOn D.tells (D.held disk.new) (D.pending disk.new) r.0 r.1) }
+    ensures means { D.tells → IfOk result (λ r. IsJournal (D.held disk.old chosen) r.0.base r.1) }
+    ensures mended { D.tells → IfOk result (λ r. IsMended (D.held disk.old chosen) r.0.base (D.held disk.new chosen)) }
+    ensures refused { D.tells → (file : FileS) (at : ℕ) → IsErrOf result (NotAStore file at) → (file ≡ chosen) × IsRefusal (D.held disk.old chosen) at × (D.held disk.new ≡ D.held disk.old) }
+    ensures memory { D.tells → IsErrOf result OpenFault.Memory → D.held disk.new ≡ D.held disk.old }
+    ensures time { D.tells → OpensOver D.clock D.may_leave D.held D.pending disk.old disk.new }
+    ensures still { D.tells → IsStill (D.held disk.old) (D.pending disk.old) chosen → Moments D.clock D.may_leave disk.old disk.new (λ _. LeavesMeaning (D.held disk.old) (D.pending disk.old)) }
+    ensures others { D.tells → OthersStay (D.held disk.old) (D.held disk.new) (D.pending disk.old) (D.pending disk.new) }
+    ensures beside { D.beside disk.new ≡ D.beside disk.old }
+    ensures later { D.faults disk.old ≤ D.faults disk.new }
+    ensures disk { IsErrOf result OpenFault.Disk → Rose (D.faults disk.old) (D.faults disk.new) }
+{
+    match disk.sync(CHOSEN) {
+        Ok(()) => open_still(alloc, disk),
+        Err(Failed) => Err(OpenFault::Disk),
+    }
+}
