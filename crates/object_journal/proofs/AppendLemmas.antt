@@ -86,7 +86,7 @@ shut_gate b c base es x place y r closed is = record {
   closed = closed;
 }
 
-not_open : closed_gate ≢ open_gate
+pub not_open : closed_gate ≢ open_gate
 not_open e = absurd (omega (arith, e))
 
 pub opened_gate : (b c : List ℕ) (base : ℕ) (es : List Entry) (x : Entry) (place : ℕ) → IsReadyAt b base es x place → MayFollow base es x → c ≡ patched b place (open_gate ∷ []) → IsGated c base (es ++ x ∷ [])

@@ -1,12 +1,21 @@
 -- What an opening leaves, from its first sync on.
-use Rattle.std.proofs.Common.{◌≡◌, ℕ, ◌≤◌, ◌<◌, List, length, refl, sym, ap, subst, ◌∙◌, length-append, ◌∷◌, ◌++◌, arith, inl, inr}
+use Rattle.std.proofs.Common.{◌≡◌, inl, inr, ⊎_elim, ℕ, ◌≤◌, ◌<◌, List, [], ◌∷◌, ◌++◌, length, refl, sym, ap, subst, ◌∙◌, arith}
+use Rattle.std.specs.Prelude.{Result, Ok, Err}
+use Rattle.std.proofs.lemmas.Bool.{cases_lt}
 use Rattle.disk.specs.declared.file.File.{File}
+use Rattle.disk.specs.declared.file.File.TheVariants.{Left}
 use Rattle.disk.specs.Images.{Pending, Images, Each, IsStill, OthersWithin, Within, same_file, end_of_lengths}
 use Rattle.disk.specs.Moments.{Moments, Unchanged}
 use Rattle.disk.specs.ImageLaws.{image_now, within_image, goes_on, weaker}
 use Rattle.object_journal.specs.declared.entry.Entry.{Entry}
-use Rattle.object_journal.specs.Journal.{IsJournal, IsGated, IsRefusal, header_of, records_of}
-use Rattle.object_journal.specs.Standing.{chosen, OthersMayBe, MeansSame, LeavesMeaning, OpensOver}
+use Rattle.object_journal.specs.declared.opening.OpenFault.{OpenFault}
+use Rattle.object_journal.specs.declared.opening.OpenFault.TheVariants.{NotAStore, Disk, Memory}
+use Rattle.object_journal.specs.Frames.{closed_gate}
+use Rattle.object_journal.specs.Journal.{IsJournal, IsGated, IsRefusal, AreLawful, last_revision, header_of, records_of}
+use Rattle.object_journal.specs.Standing.{chosen, OthersMayBe, MeansSame, LeavesMeaning, OpensOver, IsMended}
+use Rattle.object_journal.proofs.Readings.{long_header}
+use Rattle.object_journal.proofs.AppendLemmas.{gate_inside, not_open}
+use Rattle.object_journal.proofs.MendLemmas.{no_entries}
 
 same_bytes : (b c : List ℕ) → c ≡ b → MeansSame b c
 same_bytes b c is = record { means = λ base es j. subst (λ (t : List ℕ). IsJournal t base es) (sym is) j; refused = λ place r. is }
@@ -63,3 +72,49 @@ module _ {D : Type 0} (clock : D → ℕ) (may_leave : D → ℕ → Images → 
       → Moments clock may_leave old mid (λ _. Each (pending old)) → Moments clock may_leave mid new (λ _. LeavesMeaning (held mid) (pending mid)) → Moments clock may_leave old new (λ _. LeavesMeaning (held old) (pending old))
   opens_still old mid new still same within first second = goes_on clock may_leave old mid new _ (still_first old mid still first)
       (weaker clock may_leave mid new _ _ (λ t i above le l. leaves_from (held old) (held mid) (pending old) (pending mid) i same within l) second)
+
+-- ---- what was read
+
+pub end_short : (b : List ℕ) (base : ℕ) (es : List Entry) (place : ℕ) → IsJournal b base es → place ≡ length (header_of base ++ records_of es) → length b < end_of_lengths → place < end_of_lengths
+end_short b base es place (inl j) is short = omega (arith, is ∙ ap (λ (xs : List Entry). length (header_of base ++ records_of xs)) j.2)
+end_short b base es place (inr (inl j)) is short = omega (arith, is ∙ ap (λ (xs : List Entry). length (header_of base ++ records_of xs)) j.1)
+end_short b base es place (inr (inr j)) is short = omega (arith, gate_inside b base es place (record { gated = j; place_is = is }), short)
+
+long_gated : (b : List ℕ) (base : ℕ) (es : List Entry) → 17 < length b → IsJournal b base es → IsGated b base es
+long_gated b base es long (inl j) = absurd (omega (arith, j.0, long))
+long_gated b base es long (inr (inl j)) = absurd (omega (arith, long_header b base j.0, long))
+long_gated b base es long (inr (inr j)) = j
+
+-- what a mended file holds
+pub mended_gated : (b c : List ℕ) (base : ℕ) (es : List Entry) → IsJournal b base es → base ≤ last_revision → AreLawful base es → IsMended b base c → IsGated c base es
+mended_gated b c base es j fits lawful m = ⊎_elim
+    (λ (long : 17 < length b). subst (λ (t : List ℕ). IsGated t base es) (sym (m.long long)) (long_gated b base es long j))
+    (λ (short : length b ≤ 17). record {
+      gate = closed_gate;
+      behind = [];
+      parts = m.short short ∙ ap (λ (xs : List Entry). header_of base ++ (records_of xs ++ closed_gate ∷ [])) (sym (no_entries b base es short j));
+      base_fits = fits;
+      lawful = lawful;
+      closed = not_open;
+    })
+    (cases_lt 17 (length b))
+
+abbrev fault_in : {T : Type 0} → Result T OpenFault → OpenFault
+fault_in (Ok v) = Memory
+fault_in (Err fault) = fault
+
+abbrev file_in : OpenFault → File
+file_in (NotAStore file at) = file
+file_in Disk = Left
+file_in Memory = Left
+
+abbrev place_in : OpenFault → ℕ
+place_in (NotAStore file at) = at
+place_in Disk = 0
+place_in Memory = 0
+
+pub one_refusal : {T : Type 0} (a file_place : ℕ) (file : File) (r : Result T OpenFault) → r ≡ Err (NotAStore chosen a) → r ≡ Err (NotAStore file file_place) → (file ≡ chosen) × (file_place ≡ a)
+one_refusal a file_place file r p q =
+    let e : fault_in r ≡ NotAStore chosen a = ap fault_in p in
+    let f : fault_in r ≡ NotAStore file file_place = ap fault_in q in
+    (ap file_in (sym f ∙ e), ap place_in (sym f ∙ e))
