@@ -2,6 +2,7 @@ mod Fields
 mod Readings
 mod Appends
 mod Refusals
+mod SomeReadings
 mod PartLemmas
 mod HeldLemmas
 mod RuleLemmas

@@ -58,8 +58,8 @@ fresh_base b base es short (inr (inr j)) = absurd (omega (arith, short, ap lengt
 pub same_none : (b c : List ℕ) (base : ℕ) (es : List Entry) → IsJournal b base es → es ≡ [] → IsJournal c base [] → MeansSame b c
 same_none b c base es j none now = record {
   means = λ base2 es2 k.
-    let same = one_reading b base base2 es es2 j k in
-    subst (λ (p : ℕ × List Entry). IsJournal c p.0 p.1) (λ i. (same.base i, (sym none ∙ same.entries) i)) now;
+      let same = one_reading b base base2 es es2 j k in
+      subst (λ (p : ℕ × List Entry). IsJournal c p.0 p.1) (λ i. (same.base i, (sym none ∙ same.entries) i)) now;
   refused = λ place r. absurd (reads_or_breaks b base place es j r);
 }
 
@@ -86,13 +86,16 @@ image_of_first_gate b c base h image =
     let most : length c ≤ 17 = ⊎_elim (λ (l : length b ≡ 17). omega (arith, l, image.no_longer, reached_most 16 1 (length b))) (λ s. omega (arith, s.0, image.no_longer, reached_most 16 1 (length b))) (headed_size b base h) in
     let front : take 16 c ≡ header_of base = front_after_write 16 1 16 b c image (omega arith) least ∙ headed_front b base h in
     ⊎_elim
-      (λ (long : length c ≡ 17). inr (inl (record {
+    (λ (long : length c ≡ 17). inr (inl (
+      record {
         gate = get_or (drop 16 c) 0 0;
         parts = sym (take-append-drop 16 c) ∙ (λ i. front i ++ one_left (drop 16 c) (omega (arith, length-drop 16 c, long)) i);
         base_fits = headed_fits b base h;
-      }, refl)))
-      (λ short. inl (omega (arith, short.0), ⊎_elim (λ (l : length b ≡ 17). absurd (omega (arith, l, short.1))) (λ s. s.1) (headed_size b base h), refl))
-      (size_cases (length c) (length b) image.no_shorter most least)
+      },
+      refl,
+    )))
+    (λ short. inl (omega (arith, short.0), ⊎_elim (λ (l : length b ≡ 17). absurd (omega (arith, l, short.1))) (λ s. s.1) (headed_size b base h), refl))
+    (size_cases (length c) (length b) image.no_shorter most least)
 
 -- ---- moments
 

@@ -19,8 +19,8 @@ pub put_moments : {D : Type 0} (clock : D → ℕ) (may_leave : D → ℕ → Im
     → Moments clock may_leave old new (λ _. LeavesWrite (held old) (pending old) at n)
 put_moments clock may_leave held pending old mid new at n still becomes first second =
     weaker clock may_leave old new (λ _. Each (at_file chosen (after_write at n) (pending old))) _ (λ t i above le each. leaves_write (held old) (pending old) at n i still each)
-      (goes_on clock may_leave old mid new _ first
-        (weaker clock may_leave mid new (λ _. Each (pending mid)) _ (λ t i above le each f. within_image _ _ (i f) (becomes f) (each f)) second))
+    (goes_on clock may_leave old mid new _ first
+    (weaker clock may_leave mid new (λ _. Each (pending mid)) _ (λ t i above le each f. within_image _ _ (i f) (becomes f) (each f)) second))
 
 -- the images of other files after a call are among those before it
 pub others_back : (held_old held_mid : Images) (pending_old pending_mid : File → Pending) (i : Images) → OthersStay held_old held_mid pending_old pending_mid → OthersMayBe pending_mid i → OthersMayBe pending_old i

@@ -7,12 +7,14 @@ use crate::entry::Entry;
 use crate::framed::Framed;
 
 /// The law of one reading: bytes mean at most one base with at most one list of entries, and bytes that mean any have no
-/// place where they break the grammar, which others have at most once. Nothing is computed here; the law is the contract.
+/// place where they break the grammar, which others have at most once. No bytes have neither. Nothing is computed here;
+/// the law is the contract.
 pub fn bytes_have_one_reading(bytes: &[u8])
     ensures base { (a b : ℕ) (xs ys : List Entry) → IsJournal bytes.now a xs → IsJournal bytes.now b ys → a ≡ b }
     ensures entries { (a b : ℕ) (xs ys : List Entry) → IsJournal bytes.now a xs → IsJournal bytes.now b ys → xs ≡ ys }
     ensures either { (base place : ℕ) (entries : List Entry) → IsJournal bytes.now base entries → ¬ IsRefusal bytes.now place }
     ensures place { (p q : ℕ) → IsRefusal bytes.now p → IsRefusal bytes.now q → p ≡ q }
+    ensures some { ((base : ℕ) (entries : List Entry) → ¬ IsJournal bytes.now base entries) → ¬ ((place : ℕ) → ¬ IsRefusal bytes.now place) }
 {}
 
 /// The law of the next record: where bytes mean a base and entries, and the framed entry may follow them, then its bytes

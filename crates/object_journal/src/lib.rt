@@ -2,6 +2,8 @@
 #![tactic(auto)]
 
 mod appending;
+#[cfg(test)]
+mod disk_tests;
 mod entry;
 mod framed;
 mod held;

@@ -16,4 +16,4 @@ pub returns-clause-time : goal.returns-clause-time
 returns-clause-time g c told base entries means =
     let d = g.D.Disk in
     fresh_moments d.clock d.may_leave d.held d.pending c.args.disk.now c.put_header.new.disk c.put_gate-2.new.disk base entries (omega (arith, c.requires.len told, c.if-len-eq17.false, c.if-len-gt17.false)) means (c.put_header.ensures.others told)
-      (c.put_header.ensures.time told) (c.put_gate-2.ensures.time told 0 (inl (c.in_ok-put_header.ensures.written told, refl)))
+    (c.put_header.ensures.time told) (c.put_gate-2.ensures.time told 0 (inl (c.in_ok-put_header.ensures.written told, refl)))

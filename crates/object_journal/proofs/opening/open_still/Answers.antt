@@ -43,7 +43,7 @@ returns-clause-stands g c =
       short = end_short c.as_slice.result.now r.base r.entries c.in-Ok-read_journal.read.1 c.in-Ok-read_journal.ensures.ok c.in-Ok-read_journal.ensures.gate short;
       still = λ told. c.in-Ok-mend.ensures.still told;
       gated = λ told.
-        let same = c.in-Ok.ensures.same told in
-        let read : IsJournal (d.held c.read_whole.new.disk chosen) r.base r.entries = subst (λ (t : List ℕ). IsJournal t r.base r.entries) (c.as_slice.ensures.value ∙ c.in-Ok.ensures.bytes told ∙ ap (λ (h : Images). h chosen) (sym same.held)) c.in-Ok-read_journal.ensures.ok in
-        mended_gated (d.held c.read_whole.new.disk chosen) (d.held c.mend.new.disk chosen) r.base r.entries read state.base_fits state.lawful (c.in-Ok-mend.ensures.mended told r.base r.entries read);
+          let same = c.in-Ok.ensures.same told in
+          let read : IsJournal (d.held c.read_whole.new.disk chosen) r.base r.entries = subst (λ (t : List ℕ). IsJournal t r.base r.entries) (c.as_slice.ensures.value ∙ c.in-Ok.ensures.bytes told ∙ ap (λ (h : Images). h chosen) (sym same.held)) c.in-Ok-read_journal.ensures.ok in
+          mended_gated (d.held c.read_whole.new.disk chosen) (d.held c.mend.new.disk chosen) r.base r.entries read state.base_fits state.lawful (c.in-Ok-mend.ensures.mended told r.base r.entries read);
     }

@@ -18,8 +18,8 @@ returns-in_err-open_gate-clause-time g c told entries s may =
     let base = c.args.self.now.base in
     let at : IsGatedAt (d.held c.args.disk.now chosen) base entries c.args.self.now.end = record { gated = s.gated told; place_is = s.end_is } in
     append_moments d.clock d.may_leave d.held d.pending c.args.disk.now c.put_record.new.disk c.open_gate.new.disk base entries c.args.framed.now (c.put_record.ensures.others told)
-      (c.put_record.ensures.time told base entries at)
-      (c.open_gate.ensures.time told base entries c.args.framed.now (c.in_ok-put_record.ensures.ready told base entries at) may)
+    (c.put_record.ensures.time told base entries at)
+    (c.open_gate.ensures.time told base entries c.args.framed.now (c.in_ok-put_record.ensures.ready told base entries at) may)
 
 pub returns-clause-time : goal.returns-clause-time
 returns-clause-time g c told entries s may =
@@ -27,8 +27,8 @@ returns-clause-time g c told entries s may =
     let base = c.args.self.now.base in
     let at : IsGatedAt (d.held c.args.disk.now chosen) base entries c.args.self.now.end = record { gated = s.gated told; place_is = s.end_is } in
     append_moments d.clock d.may_leave d.held d.pending c.args.disk.now c.put_record.new.disk c.open_gate.new.disk base entries c.args.framed.now (c.put_record.ensures.others told)
-      (c.put_record.ensures.time told base entries at)
-      (c.open_gate.ensures.time told base entries c.args.framed.now (c.in_ok-put_record.ensures.ready told base entries at) may)
+    (c.put_record.ensures.time told base entries at)
+    (c.open_gate.ensures.time told base entries c.args.framed.now (c.in_ok-put_record.ensures.ready told base entries at) may)
 
 pub returns-clause-stands : goal.returns-clause-stands
 returns-clause-stands g c entries s may =
@@ -43,6 +43,6 @@ returns-clause-stands g c entries s may =
       short = omega (arith, c.in_ok-put_record.ensures.short, ap length c.bytes.ensures.bytes_are, length-append (frame_bytes x) (closed_gate ∷ []));
       still = λ told. c.in_ok-open_gate.ensures.still told;
       gated = λ told.
-        let at : IsGatedAt (d.held c.args.disk.now chosen) base entries c.args.self.now.end = record { gated = s.gated told; place_is = s.end_is } in
-        c.in_ok-open_gate.ensures.opened told base entries x (c.in_ok-put_record.ensures.ready told base entries at) may;
+          let at : IsGatedAt (d.held c.args.disk.now chosen) base entries c.args.self.now.end = record { gated = s.gated told; place_is = s.end_is } in
+          c.in_ok-open_gate.ensures.opened told base entries x (c.in_ok-put_record.ensures.ready told base entries at) may;
     }
