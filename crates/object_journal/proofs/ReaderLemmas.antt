@@ -14,7 +14,8 @@ use Rattle.object_journal.specs.KeyOrder.{by_key}
 use Rattle.object_journal.specs.Journal.{AreLawful, HasNoNext, IsHeader, IsGated, IsJournal, IsBrokenAt, last_revision, revision_after, open_gate, header_of, records_of}
 use Rattle.object_journal.specs.HeldKeys.{AreHeld}
 use Rattle.object_journal.specs.Readings.{Begins, Advances, HasHeader, IsReadTo, IsGateOf}
-use Rattle.object_journal.proofs.Appends.{not_empty, records_more}
+use Rattle.object_journal.specs.EntryLaws.{not_empty}
+use Rattle.object_journal.proofs.Appends.{records_more}
 
 none_held : (held : BTreeSet Key) → held.keys ≡ [] → AreHeld held []
 none_held held none k = (

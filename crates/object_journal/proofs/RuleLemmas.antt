@@ -10,15 +10,8 @@ use Rattle.object_journal.specs.declared.entry.Change.TheVariants.{Removal}
 use Rattle.object_journal.specs.Payload.{frame_bytes}
 use Rattle.object_journal.specs.Journal.{IsHeld, IsNextRevision, IsLawfulChange, MayFollow, AreLawful, HasNoNext, last_revision, revision_after}
 use Rattle.object_journal.specs.Parts.{IsRecordAt}
+use Rattle.object_journal.specs.EntryLaws.{base_below, revision_more}
 use Rattle.object_journal.proofs.Readings.{IsRecord, record_of_lawful, one_record}
-
-base_below : (base : ℕ) (es : List Entry) → base ≤ revision_after base es
-base_below base [] = omega arith
-base_below base (e ∷ es) = omega (arith, base_below base es)
-
-pub revision_more : (base : ℕ) (es : List Entry) (e : Entry) → revision_after base (es ++ e ∷ []) ≡ max (revision_after base es) e.revision
-revision_more base [] e = omega arith
-revision_more base (x ∷ es) e = omega (arith, revision_more base es e)
 
 strictly : (a b : ℕ) → a ≤ b → b ≢ a → a < b
 strictly a b le apart = ⊎_elim (λ lt. lt) (λ ge. absurd (apart (let e : b ≡ a = omega (arith, le, ge) in e))) (cases_lt a b)

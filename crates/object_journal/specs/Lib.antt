@@ -6,3 +6,5 @@ pub mod Parts
 pub mod HeldKeys
 pub mod Readings
 pub mod Standing
+pub mod KeyLaws
+pub mod EntryLaws

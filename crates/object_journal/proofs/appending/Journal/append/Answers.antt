@@ -2,8 +2,7 @@ use Rattle.std.proofs.Common.{[], ◌∷◌, refl, sym, ap, ◌∙◌, max, leng
 use Rattle.object_journal.specs.Standing.{chosen, IsGatedAt}
 use Rattle.object_journal.specs.Payload.{frame_bytes}
 use Rattle.object_journal.specs.Frames.{closed_gate}
-use Rattle.object_journal.proofs.Appends.{lawful_more}
-use Rattle.object_journal.proofs.RuleLemmas.{revision_more}
+use Rattle.object_journal.specs.EntryLaws.{lawful_more, revision_more}
 use Rattle.object_journal.proofs.AppendLemmas.{before_moments, append_moments, end_more}
 use Rattle.object_journal.proofs.appending.Journal.append.Goals as goal
 

@@ -3,8 +3,8 @@ use Rattle.std.specs.Prelude.{max, Err}
 use Rattle.std.proofs.lemmas.Bool.{false≢true}
 use Rattle.object_journal.specs.Journal.{AreLawful, MayFollow, revision_after}
 use Rattle.object_journal.specs.HeldKeys.{AreHeld}
-use Rattle.object_journal.proofs.Appends.{lawful_more}
-use Rattle.object_journal.proofs.RuleLemmas.{unlawful, revision_more}
+use Rattle.object_journal.specs.EntryLaws.{lawful_more, revision_more}
+use Rattle.object_journal.proofs.RuleLemmas.{unlawful}
 use Rattle.object_journal.proofs.reading.Reading.advance.Goals as goal
 
 pub returns-then-not-are_few-clause-unlawful : goal.returns-then-not-are_few-clause-unlawful
