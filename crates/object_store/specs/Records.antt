@@ -5,7 +5,7 @@ use Rattle.std.specs.declared.cmp.Ordering.TheVariants.{Less, Greater}
 use Rattle.object_journal.specs.declared.key.Key.{Key}
 use Rattle.object_journal.specs.declared.entry.Entry.{Entry}
 use Rattle.object_journal.specs.declared.entry.Change.TheVariants.{Put}
-use Rattle.object_journal.specs.Journal.{Leaves}
+use Rattle.object_journal.specs.Journal.{Leaves, IsJournal, revision_after}
 use Rattle.object_journal.specs.KeyOrder.{by_key}
 use Rattle.object_store.specs.declared.item.Item.{Item}
 
@@ -31,6 +31,14 @@ pub record IsChanged (old : List Item) (e : Entry) (new : List Item) : Type 0 wh
 -- a record of the key is there
 abbrev pub HoldsKey : List Item → Key → Type 0
 HoldsKey items key = (r : Item) × Contains items r × (r.key ≡ key)
+
+-- The bytes of a file give these records at this revision: those that the entries leave which the bytes mean.
+pub record RecoversTo (bytes : List ℕ) (items : List Item) (revision : ℕ) : Type 0 where
+  pub base : ℕ
+  pub entries : List Entry
+  pub means : IsJournal bytes base entries
+  pub records : AreRecords entries items
+  pub revision_is : revision ≡ revision_after base entries
 
 -- where a key stands: the place of its record
 pub record IsPlaceOf (items : List Item) (key : Key) (place : ℕ) : Type 0 where

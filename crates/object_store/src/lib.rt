@@ -3,6 +3,10 @@
 
 mod item;
 mod places;
+mod ready;
 mod recovered;
+mod store;
 
 pub use item::Item;
+pub use ready::{Ready, ReadyFault};
+pub use store::Store;
