@@ -1,5 +1,5 @@
 -- What an entry's change leaves of records in key order.
-use Rattle.std.proofs.Common.{◌≡◌, ◌≢◌, ◌⊎◌, inl, inr, ⊎_elim, ◌↔◌, ℕ, suc, ◌+◌, ◌<◌, ◌≤◌, List, [], ◌∷◌, ◌++◌, length, get_or, set, take, drop, Contains, refl, sym, ap, subst, ◌∙◌, arith, drop-cons, length-set, get_or-set_same}
+use Rattle.std.proofs.Common.{◌≡◌, ◌≢◌, ◌⊎◌, inl, inr, ⊎_elim, ◌↔◌, ℕ, suc, ◌<◌, List, [], ◌∷◌, ◌++◌, length, get_or, set, take, drop, Contains, refl, sym, ap, subst, ◌∙◌, arith, drop-cons, length-set, get_or-set_same}
 use Rattle.std.specs.Prelude.{All, insert, remove, Result, Ok, Err, IsOk, is_ok, if◌then◌else◌}
 use Rattle.std.specs.Ordering.{ordering_reverse}
 use Rattle.std.specs.declared.cmp.Ordering.{Ordering}
@@ -9,26 +9,25 @@ use Rattle.std.proofs.lemmas.List.Elements.{All-nil, All-cons, All-head, All-tai
 use Rattle.std.proofs.lemmas.Bool.{false≢true}
 use Rattle.object_journal.specs.declared.key.Key.{Key}
 use Rattle.object_journal.specs.declared.entry.Entry.{Entry}
-use Rattle.object_journal.specs.declared.entry.Change.{Change}
 use Rattle.object_journal.specs.declared.entry.Change.TheVariants.{Put, Removal}
 use Rattle.object_journal.specs.Payload.{created_of, body_of}
 use Rattle.object_journal.specs.KeyOrder.{by_key}
-use Rattle.object_journal.specs.KeyLaws.{by_key_total, same, is_same}
+use Rattle.object_journal.specs.KeyLaws.{by_key_total}
 use Rattle.object_store.specs.declared.item.Item.{Item}
 use Rattle.object_store.specs.Records.{AreInKeyOrder, IsPlaceOf, IsGapOf, IsChanged, put_of}
 
 -- ---- elements
 
-head_there : (x : Item) (xs : List Item) → Contains (x ∷ xs) x
+pub head_there : (x : Item) (xs : List Item) → Contains (x ∷ xs) x
 head_there x xs = Contains-append_left (x ∷ []) xs x (Contains-push [] x)
 
-tail_there : (x y : Item) (xs : List Item) → Contains xs y → Contains (x ∷ xs) y
+pub tail_there : (x y : Item) (xs : List Item) → Contains xs y → Contains (x ∷ xs) y
 tail_there x y xs there = Contains-append_right (x ∷ []) xs y there
 
-head_or_tail : (x y : Item) (xs : List Item) → Contains (x ∷ xs) y → (x ≡ y) ⊎ Contains xs y
+pub head_or_tail : (x y : Item) (xs : List Item) → Contains (x ∷ xs) y → (x ≡ y) ⊎ Contains xs y
 head_or_tail x y xs there = ⊎_elim (λ one. ⊎_elim (λ none. absurd (let below = none.1 in omega (arith, below))) (λ e. inl e) (Contains-push_cases [] x y one)) (λ later. inr later) (Contains-append_cases (x ∷ []) xs y there)
 
-all_of : (P : Item → Type 0) (xs : List Item) → ((y : Item) → Contains xs y → P y) → All P xs
+pub all_of : (P : Item → Type 0) (xs : List Item) → ((y : Item) → Contains xs y → P y) → All P xs
 all_of P xs each = All-weaker (Contains xs) P each xs (All-contains_itself xs)
 
 all_left : (P : Item → Type 0) (xs ys : List Item) → All P (xs ++ ys) → All P xs
@@ -48,7 +47,7 @@ itself_there xs ys x = Contains-append_right xs (x ∷ ys) x (head_there x ys)
 
 -- ---- order
 
-below_apart : (a b : Key) → by_key a b ≡ Less → a ≢ b
+pub below_apart : (a b : Key) → by_key a b ≡ Less → a ≢ b
 below_apart a b less e = let none : by_key a a ≡ Less = subst (λ (k : Key). by_key a k ≡ Less) (sym e) less in not_both (by_key a a) none (by_key_total.antisymm a a)
   where
     not_both : (o : Ordering) → o ≡ Less → o ≡ ordering_reverse o → ⊥
@@ -56,7 +55,7 @@ below_apart a b less e = let none : by_key a a ≡ Less = subst (λ (k : Key). b
     not_both Equal h r = absurd (let e : Equal ≡ Less = h in cc)
     not_both Greater h r = absurd (let e : Greater ≡ Less = h in cc)
 
-turned : (a b : Key) → by_key a b ≡ Greater → by_key b a ≡ Less
+pub turned : (a b : Key) → by_key a b ≡ Greater → by_key b a ≡ Less
 turned a b greater = by_key_total.antisymm b a ∙ ap ordering_reverse greater
 
 -- each of these is below each of those

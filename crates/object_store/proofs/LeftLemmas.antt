@@ -1,5 +1,5 @@
 -- The map of what entries leave, one entry after the other, and the records that it lists.
-use Rattle.std.proofs.Common.{◌≡◌, ◌≢◌, ◌⊎◌, inl, inr, ⊎_elim, ◌↔◌, ℕ, ◌<◌, Bool, true, false, cond, List, [], ◌∷◌, ◌++◌, length, get_or, map, Contains, None, Some, refl, sym, ap, subst, ◌∙◌}
+use Rattle.std.proofs.Common.{◌≡◌, ⊎_elim, ◌<◌, Bool, true, false, cond, List, [], ◌∷◌, ◌++◌, map, Contains, None, Some, sym, ap, subst, ◌∙◌}
 use Rattle.std.specs.Prelude.{All}
 use Rattle.std.specs.BTreeMap.{BTreeMap, get, is_at, IsOrdered}
 use Rattle.std.specs.List.{AllByRecursion}
@@ -14,7 +14,6 @@ use Rattle.std.proofs.lemmas.Map.Views.{Contains-from_lookup, lookup-from_Contai
 use Rattle.std.proofs.Math.ListN.{get_or-map}
 use Rattle.object_journal.specs.declared.key.Key.{Key}
 use Rattle.object_journal.specs.declared.entry.Entry.{Entry}
-use Rattle.object_journal.specs.declared.entry.Change.{Change}
 use Rattle.object_journal.specs.declared.entry.Change.TheVariants.{Put, Removal}
 use Rattle.object_journal.specs.Journal.{Leaves, IsPut}
 use Rattle.object_journal.specs.Payload.{created_of, body_of}
@@ -64,9 +63,9 @@ put_left old new es e key v u is are k h =
       (λ l. ⊎_elim
           (λ there. let (at, held) = held_of_put k key h v (there ∙ is) in at_true (is_same key k (sym at)) ∙ ap Some (sym held))
           (λ both. ⊎_elim
-              (λ t. absurd (both.1 (ap (λ (x : Entry). x.key) is ∙ same_is key k t)))
-              (λ f. at_false f ∙ (are k h).1 both.0)
-              (true_or_false (same key k)))
+          (λ t. absurd (both.1 (ap (λ (x : Entry). x.key) is ∙ same_is key k t)))
+          (λ f. at_false f ∙ (are k h).1 both.0)
+          (true_or_false (same key k)))
           (leaves_cases es e (put_at k h) l)),
     )
   where

@@ -1,3 +1,5 @@
 mod OrderLemmas
 mod ChangeLemmas
 mod LeftLemmas
+mod NextLemmas
+mod CommitLemmas

@@ -1,5 +1,5 @@
 -- A store: what it holds, what it stands on, and the entry that a commit takes.
-use Rattle.std.specs.Prelude.{◌≡◌, ◌⊎◌, ◌↔◌, ℕ, ◌+◌, ◌≤◌, List, All, Contains, length}
+use Rattle.std.specs.Prelude.{◌≡◌, ◌⊎◌, ℕ, ◌+◌, ◌≤◌, List, All, Contains, length}
 use Rattle.disk.specs.declared.file.File.{File}
 use Rattle.disk.specs.Images.{Pending, Images}
 use Rattle.object_journal.specs.declared.key.Key.{Key}
@@ -35,28 +35,33 @@ pub record HasEntries (tells : Type 0) (held : Images) (pending : File → Pendi
 
 -- ---- entries of a store
 
--- there is no room for a put of the key
-abbrev pub IsFull : StoreRecord → Key → Type 0
-IsFull s key = (last_revision ≤ s.journal.revision) ⊎ ((¬ HoldsKey s.items key) × (most_keys ≤ length s.items))
+-- of records at a revision: there is no room for a put of the key
+abbrev pub IsFull : List Item → ℕ → Key → Type 0
+IsFull items revision key = (last_revision ≤ revision) ⊎ ((¬ HoldsKey items key) × (most_keys ≤ length items))
+
+-- the revision at which a key was created: that of its record, or the next one
+pub record IsCreated (items : List Item) (key : Key) (next created : ℕ) : Type 0 where
+  pub held : (r : Item) → Contains items r → r.key ≡ key → created ≡ r.created
+  pub fresh : ¬ HoldsKey items key → created ≡ next
+
+-- the next put of the key, with this body
+pub record IsPutOf (items : List Item) (revision : ℕ) (key : Key) (body : List ℕ) (e : Entry) : Type 0 where
+  pub key_is : e.key ≡ key
+  pub next : e.revision ≡ revision + 1
+  pub created : ℕ
+  pub put : e.change ≡ Put created body
+  pub keeps : IsCreated items key (revision + 1) created
+
+-- the next removal of the key
+pub record IsRemovalOf (revision : ℕ) (key : Key) (e : Entry) : Type 0 where
+  pub key_is : e.key ≡ key
+  pub next : e.revision ≡ revision + 1
+  pub removal : e.change ≡ Removal
 
 -- a put keeps the created revision of a held key, and a new key is created at the put
 abbrev pub KeepsCreated : List Item → Entry → Change → Type 0
-KeepsCreated items e (Put created body) = ((r : Item) → Contains items r → r.key ≡ e.key → created ≡ r.created) × (¬ HoldsKey items e.key → created ≡ e.revision)
+KeepsCreated items e (Put created body) = IsCreated items e.key e.revision created
 KeepsCreated items e Removal = Unit {0}
-
--- the next put of the key, with this body
-pub record IsPutOf (s : StoreRecord) (key : Key) (body : List ℕ) (e : Entry) : Type 0 where
-  pub key_is : e.key ≡ key
-  pub next : e.revision ≡ s.journal.revision + 1
-  pub created : ℕ
-  pub put : e.change ≡ Put created body
-  pub keeps : KeepsCreated s.items e e.change
-
--- the next removal of the key
-pub record IsRemovalOf (s : StoreRecord) (key : Key) (e : Entry) : Type 0 where
-  pub key_is : e.key ≡ key
-  pub next : e.revision ≡ s.journal.revision + 1
-  pub removal : e.change ≡ Removal
 
 -- the entry may follow those of the store, as its next one
 pub record MayCommit (s : StoreRecord) (entries : List Entry) (e : Entry) : Type 0 where

@@ -22,11 +22,7 @@ pub(crate) struct Held {
 }
 
 // Takes one more entry in.
-fn take_in(
-    alloc: Global,
-    held: &mut BTreeMap<Key, Held>,
-    entry: &Entry,
-) -> Result<(), Memory>
+fn take_in(alloc: Global, held: &mut BTreeMap<Key, Held>, entry: &Entry) -> Result<(), Memory>
     ensures { OnOk result ((entries : List Entry) → AreLeft held.old entries → AreLeft held.new (entries ++ entry.now ∷ [])) }
 {
     match &entry.change {

@@ -1,18 +1,18 @@
 //! The map of records over the journal.
-ghost use Rattle.std.specs.Prelude.{◌≡◌, ◌↔◌, ◌⊎◌, ◌+◌, ◌≤◌, ◌<◌, ℕ, true, List, [], ◌∷◌, ◌++◌, length, IsTrue, IfOk, OnOk, OnErr, IfSome, IfNone, IsErrOf, Contains};
+ghost use Rattle.std.specs.Prelude.{◌≡◌, ◌↔◌, ◌⊎◌, ◌+◌, ◌≤◌, ◌<◌, ℕ, true, false, List, [], ◌∷◌, ◌++◌, length, IsTrue, IfOk, OnOk, OnErr, IfSome, IfNone, IsErrOf, Contains};
 ghost use Rattle.basis.specs.Counts.{HasCause};
 ghost use Rattle.disk.specs.Moments.{Moments};
 ghost use Rattle.object_journal.specs.declared.entry.Entry.{Entry as EntryS};
 ghost use Rattle.object_journal.specs.declared.appending.Journal.{Journal as JournalS};
 ghost use Rattle.object_journal.specs.Payload.{HasShortTexts, longest_payload, payload_of};
-ghost use Rattle.object_journal.specs.Journal.{MayFollow, last_revision, most_keys};
+ghost use Rattle.object_journal.specs.Journal.{HasLawfulTexts, last_revision, most_keys};
 ghost use Rattle.object_journal.specs.Standing.{OthersStay};
 ghost use Rattle.object_store.specs.declared.item.Item.{Item as ItemS};
 ghost use Rattle.object_store.specs.Records.{AreInKeyOrder, IsChanged, HoldsKey};
 ghost use Rattle.object_store.specs.Stores.{HaveLawfulTexts, Recalls, HasEntries, IsFull, IsPutOf, IsRemovalOf, MayCommit, LeavesRecords};
 
 use crate::item::Item;
-use crate::places::{item_of, put_item, take_item};
+use crate::places::{change, created_in, item_of};
 use crate::ready::{Ready, ReadyFault, ready_of};
 use disk::{Disk, Failed};
 use minor_version::Blob;
@@ -50,6 +50,39 @@ impl Model for Store {
     } };
 }
 
+// Whether no put of the key may follow.
+fn is_full(items: &[Item], revision: u64, key: &Key) -> bool
+    requires { AreInKeyOrder items.now }
+    ensures { IsTrue result ↔ IsFull items.now revision key.now }
+{
+    revision >= LAST_REVISION || (items.len() >= MOST_KEYS && item_of(items, key).is_none())
+}
+
+fn next_put(items: &[Item], revision: u64, key: Key, body: Blob) -> Entry
+    requires ordered { AreInKeyOrder items.now }
+    requires fits { revision < last_revision }
+    ensures { IsPutOf items.now revision key body result }
+{
+    let revision = revision + 1;
+    let created = created_in(items, &key, revision);
+    Entry {
+        key,
+        revision,
+        change: Change::Put { created, body },
+    }
+}
+
+// The texts of the key are UTF-8. Nothing is computed here.
+fn know_texts(key: &Key)
+    requires { HasShortTexts key.now }
+    ensures { HasLawfulTexts key.now }
+{
+    let _group = key.group.as_str();
+    let _resource = key.resource.as_str();
+    let _namespace = key.namespace.as_str();
+    let _name = key.name.as_str();
+}
+
 impl Store {
     /// The records, in key order.
     pub fn items(&self) -> &[Item]
@@ -80,5 +113,97 @@ impl Store {
         ensures { result ≡ self.now.journal.ended }
     {
         self.journal.has_ended()
+    }
+}
+
+impl Store {
+    // Makes the entry ready, and takes the room that its commit needs.
+    fn make_ready(&mut self, alloc: Global, entry: Entry) -> Result<Ready, ReadyFault>
+        requires { HasShortTexts entry.key }
+        ensures ok { IfOk result (λ e. e ≡ entry) }
+        ensures within { OnOk result (length (payload_of entry) ≤ longest_payload) }
+        ensures spare { OnOk result (self.new ≡ record self.old { spare = 1 }) }
+        ensures full { ¬ IsErrOf result ReadyFault.Full }
+        ensures too_long { IsErrOf result ReadyFault.TooLong ↔ (longest_payload < length (payload_of entry)) }
+        ensures err { OnErr result (self.new ≡ self.old) }
+    {
+        let ready = ready_of(alloc, entry)?;
+        let Ok(()) = self.items.reserve(1) else {
+            return Err(ReadyFault::Memory);
+        };
+        self.spare = 1;
+        Ok(ready)
+    }
+
+    /// Makes a put of the key ready. `Full` comes exactly where the key isn't held and 4,096 are, or where the revision is
+    /// the last one; else `TooLong` exactly where the entry has no frame. All memory that the commit needs is taken.
+    pub fn ready_put(&mut self, alloc: Global, key: Key, body: Blob) -> Result<Ready, ReadyFault>
+        requires going { self.old.journal.ended ≡ false }
+        requires short { HasShortTexts key }
+        ensures ok { IfOk result (λ e. IsPutOf self.old.items self.old.journal.revision key body e) }
+        ensures may { IfOk result (λ e. (entries : List EntryS) → Recalls self.old entries → MayCommit self.old entries e) }
+        ensures spare { OnOk result (self.new ≡ record self.old { spare = 1 }) }
+        ensures full { IsErrOf result ReadyFault.Full ↔ IsFull self.old.items self.old.journal.revision key }
+        ensures too_long { (e : EntryS) → IsPutOf self.old.items self.old.journal.revision key body e
+            → IsErrOf result ReadyFault.TooLong ↔ ((¬ IsFull self.old.items self.old.journal.revision key) × (longest_payload < length (payload_of e))) }
+        ensures err { OnErr result (self.new ≡ self.old) }
+    {
+        let revision = self.journal.revision();
+        if is_full(self.items.as_slice(), revision, &key) {
+            return Err(ReadyFault::Full);
+        }
+        know_texts(&key);
+        let entry = next_put(self.items.as_slice(), revision, key, body);
+        self.make_ready(alloc, entry)
+    }
+
+    /// Makes a removal of the key, which is held, ready. `Full` comes exactly where the revision is the last one. All
+    /// memory that the commit needs is taken.
+    pub fn ready_removal(&mut self, alloc: Global, key: Key) -> Result<Ready, ReadyFault>
+        requires going { self.old.journal.ended ≡ false }
+        requires held { HoldsKey self.old.items key }
+        ensures ok { IfOk result (λ e. IsRemovalOf self.old.journal.revision key e) }
+        ensures may { IfOk result (λ e. (entries : List EntryS) → Recalls self.old entries → MayCommit self.old entries e) }
+        ensures spare { OnOk result (self.new ≡ record self.old { spare = 1 }) }
+        ensures full { IsErrOf result ReadyFault.Full ↔ (last_revision ≤ self.old.journal.revision) }
+        ensures too_long { ¬ IsErrOf result ReadyFault.TooLong }
+        ensures err { OnErr result (self.new ≡ self.old) }
+    {
+        let revision = self.journal.revision();
+        if revision >= LAST_REVISION {
+            return Err(ReadyFault::Full);
+        }
+        let entry = Entry {
+            key,
+            revision: revision + 1,
+            change: Change::Removal,
+        };
+        self.make_ready(alloc, entry)
+    }
+
+    /// Puts the ready entry into the journal and makes its change: a put sets its key, a removal deletes it. Answers the
+    /// new revision. Where the disk fails, the store has ended. No memory is taken.
+    pub fn commit<D: Disk>(&mut self, ready: Ready, disk: &mut D) -> Result<u64, Failed>
+        requires spare { self.old.spare ≡ 1 }
+        requires may { (entries : List EntryS) × HasEntries D.tells (D.held disk.old) (D.pending disk.old) self.old entries × MayCommit self.old entries ready }
+        ensures ok { IfOk result (λ revision. revision ≡ ready.revision) }
+        ensures changed { OnOk result (IsChanged self.old.items ready self.new.items) }
+        ensures revision { OnOk result (self.new.journal.revision ≡ ready.revision) }
+        ensures base { self.new.journal.base ≡ self.old.journal.base }
+        ensures going { OnOk result (self.new.journal.ended ≡ false) }
+        ensures stands { OnOk result ((entries : List EntryS) → HasEntries D.tells (D.held disk.old) (D.pending disk.old) self.old entries → MayCommit self.old entries ready → HasEntries D.tells (D.held disk.new) (D.pending disk.new) self.new (entries ++ ready ∷ [])) }
+        ensures failed { OnErr result (self.new ≡ record self.old { journal = record self.old.journal { ended = true }; spare = 0 }) }
+        ensures spare { self.new.spare ≡ 0 }
+        ensures time { D.tells → Moments D.clock D.may_leave disk.old disk.new (λ _. LeavesRecords (D.pending disk.old) self.old ready) }
+        ensures others { D.tells → OthersStay (D.held disk.old) (D.held disk.new) (D.pending disk.old) (D.pending disk.new) }
+        ensures beside { D.beside disk.new ≡ D.beside disk.old }
+        ensures cause { HasCause (D.faults disk.old) (D.faults disk.new) result }
+    {
+        self.spare = 0;
+        self.journal.append(ready.framed(), disk)?;
+        let entry = ready.into_entry();
+        let revision = entry.revision;
+        change(&mut self.items, entry);
+        Ok(revision)
     }
 }

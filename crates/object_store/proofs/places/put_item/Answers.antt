@@ -1,6 +1,4 @@
-use Rattle.std.proofs.Common.{List, refl, subst, ◌∙◌, arith}
-use Rattle.std.proofs.Common.{◌≡◌, Bool, true, cond, ap}
-use Rattle.std.specs.Prelude.{insert, is_ok}
+use Rattle.std.proofs.Common.{List, refl, subst, arith}
 use Rattle.object_store.specs.declared.item.Item.{Item}
 use Rattle.object_store.specs.Records.{IsPlaceOf, IsGapOf}
 use Rattle.object_store.proofs.ChangeLemmas.{put_in_place, put_in_gap, ok_gives}

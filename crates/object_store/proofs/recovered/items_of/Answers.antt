@@ -1,10 +1,10 @@
-use Rattle.std.proofs.Common.{◌≡◌, List, [], ◌∷◌, ◌++◌, sym, subst, ap, ◌∙◌, take, map}
+use Rattle.std.proofs.Common.{◌≡◌, [], ◌∷◌, ◌++◌, sym, subst, ap, ◌∙◌, take, map}
 use Rattle.std.proofs.lemmas.List.{take_more, take_all}
 use Rattle.std.proofs.lemmas.Result.{IfOk-weaker}
 use Rattle.object_journal.specs.declared.entry.Entry.{Entry}
 use Rattle.object_store.specs.Records.{AreRecords}
 use Rattle.object_store.specs.Left.{AreLeft, item_at}
-use Rattle.object_store.proofs.LeftLemmas.{none_left, records_left}
+use Rattle.object_store.proofs.LeftLemmas.{records_left}
 use Rattle.object_store.proofs.recovered.items_of.Goals as goal
 
 pub loop-entry-preserved : goal.loop-entry-preserved

@@ -1,0 +1,56 @@
+-- What a stop in a commit leaves.
+use Rattle.std.proofs.Common.{◌≡◌, inl, inr, ⊎_elim, ℕ, ◌+◌, List, [], ◌∷◌, ◌++◌, sym, subst, arith}
+use Rattle.std.specs.Prelude.{Result, Ok, Err, IfOk}
+use Rattle.disk.specs.declared.file.File.{File}
+use Rattle.disk.specs.Images.{Pending, Images}
+use Rattle.disk.specs.Moments.{Moments}
+use Rattle.disk.specs.ImageLaws.{weaker}
+use Rattle.object_journal.specs.declared.entry.Entry.{Entry}
+use Rattle.object_journal.specs.declared.appending.Journal.{Journal}
+use Rattle.object_journal.specs.Journal.{MayFollow, revision_after}
+use Rattle.object_journal.specs.Standing.{StandsOn, LeavesEither}
+use Rattle.object_journal.specs.EntryLaws.{revision_more}
+use Rattle.object_store.specs.Records.{AreRecords}
+use Rattle.object_store.specs.Stores.{StoreRecord, HasEntries, MayCommit, LeavesRecords}
+use Rattle.object_store.proofs.NextLemmas.{records_changed, can_change}
+
+pub ok_both : {T E : Type 0} (r : Result T E) (P Q R : T → Type 0) → ((x : T) → P x → Q x → R x) → IfOk r P → IfOk r Q → IfOk r R
+ok_both (Ok x) P Q R f p q = f x p q
+ok_both (Err e) P Q R f p q = tt
+
+next_greatest : (base : ℕ) (entries : List Entry) (e : Entry) (revision : ℕ) → revision ≡ revision_after base entries → e.revision ≡ revision + 1 → e.revision ≡ revision_after base (entries ++ e ∷ [])
+next_greatest base entries e revision is next = let more = revision_more base entries e in omega (arith, is, next, more)
+
+leaves_records : (pending : File → Pending) (s : StoreRecord) (entries : List Entry) (e : Entry) (images : Images)
+    → s.journal.revision ≡ revision_after s.journal.base entries → AreRecords entries s.items → MayCommit s entries e → LeavesEither pending s.journal.base entries e images → LeavesRecords pending s e images
+leaves_records pending s entries e images revision are may l = record {
+  file = ⊎_elim
+      (λ before. inl (record { base = s.journal.base; entries = entries; means = inr (inr before); records = are; revision_is = revision }))
+      (λ after. let new = can_change s.items e are.ordered in
+      inr (
+        new.0,
+        new.1,
+        record {
+          base = s.journal.base;
+          entries = entries ++ e ∷ [];
+          means = inr (inr after);
+          records = records_changed entries s.items e new.0 are new.1;
+          revision_is = next_greatest s.journal.base entries e s.journal.revision revision may.next;
+        },
+      ))
+      l.file;
+  others = l.others;
+}
+
+pub stands_inside : (tells : Type 0) (held : Images) (pending : File → Pending) (s : StoreRecord) (j : Journal) (entries : List Entry) → j ≡ s.journal → HasEntries tells held pending s entries → StandsOn tells held pending j entries
+stands_inside tells held pending s j entries is h = subst (λ (k : Journal). StandsOn tells held pending k entries) (sym is) h.stands
+
+pub follows_inside : (s : StoreRecord) (j : Journal) (entries : List Entry) (f e : Entry) → j ≡ s.journal → f ≡ e → MayCommit s entries e → MayFollow j.base entries f
+follows_inside s j entries f e is framed may = subst (λ (p : Journal × Entry). MayFollow p.0.base entries p.1) (λ i. (sym is i, sym framed i)) may.follows
+
+pub commit_moments : {D : Type 0} (tells : Type 0) (clock : D → ℕ) (may_leave : D → ℕ → Images → Type 0) (held : D → Images) (pending : D → File → Pending) (old new : D) (s : StoreRecord) (j : Journal) (entries : List Entry) (f e : Entry)
+    → j ≡ s.journal → f ≡ e → HasEntries tells (held old) (pending old) s entries → MayCommit s entries e
+    → Moments clock may_leave old new (λ _. LeavesEither (pending old) j.base entries f) → Moments clock may_leave old new (λ _. LeavesRecords (pending old) s e)
+commit_moments tells clock may_leave held pending old new s j entries f e is framed h may m =
+    weaker clock may_leave old new (λ _. LeavesEither (pending old) j.base entries f) (λ _. LeavesRecords (pending old) s e)
+    (λ t i above le l. leaves_records (pending old) s entries e i h.stands.revision h.records may (subst (λ (p : Journal × Entry). LeavesEither (pending old) p.0.base entries p.1 i) (λ k. (is k, framed k)) l)) m

@@ -1,0 +1,50 @@
+use Rattle.std.proofs.Common.{◌++◌, ◌∷◌, [], List, sym, ap, subst, arith}
+use Rattle.object_journal.specs.declared.entry.Entry.{Entry}
+use Rattle.object_journal.specs.Journal.{HasLawfulTexts}
+use Rattle.object_journal.specs.Standing.{StandsOn}
+use Rattle.object_store.specs.declared.item.Item.{Item}
+use Rattle.object_store.specs.Records.{IsChanged}
+use Rattle.object_store.specs.Stores.{StoreRecord}
+use Rattle.object_store.proofs.NextLemmas.{records_changed, texts_changed}
+use Rattle.object_store.proofs.CommitLemmas.{stands_inside, follows_inside, commit_moments}
+use Rattle.object_store.proofs.store.Store.commit.Goals as goal
+
+pub returns-in_err-append-clause-time : goal.returns-in_err-append-clause-time
+returns-in_err-append-clause-time g c told =
+    let d = g.D.Disk in
+    let s = c.args.self.now in
+    let (entries, h, may) = c.requires.may in
+    let journal = ap (λ (x : StoreRecord). x.journal) c.self.view_is in
+    commit_moments d.tells d.clock d.may_leave d.held d.pending c.args.disk.now c.append.new.disk s c.self.inside.journal entries c.framed.result.now c.args.ready journal c.framed.ensures h may
+    (c.append.ensures.time told entries (stands_inside d.tells (d.held c.args.disk.now) (d.pending c.args.disk.now) s c.self.inside.journal entries journal h) (follows_inside s c.self.inside.journal entries c.framed.result.now c.args.ready journal c.framed.ensures may))
+
+pub returns-clause-time : goal.returns-clause-time
+returns-clause-time g c told =
+    let d = g.D.Disk in
+    let s = c.args.self.now in
+    let (entries, h, may) = c.requires.may in
+    let journal = ap (λ (x : StoreRecord). x.journal) c.self.view_is in
+    commit_moments d.tells d.clock d.may_leave d.held d.pending c.args.disk.now c.append.new.disk s c.self.inside.journal entries c.framed.result.now c.args.ready journal c.framed.ensures h may
+    (c.append.ensures.time told entries (stands_inside d.tells (d.held c.args.disk.now) (d.pending c.args.disk.now) s c.self.inside.journal entries journal h) (follows_inside s c.self.inside.journal entries c.framed.result.now c.args.ready journal c.framed.ensures may))
+
+pub invariant_of-self-2 : goal.invariant_of-self-2
+invariant_of-self-2 g c =
+    let (entries, h, may) = c.requires.may in
+    record {
+      ordered = c.change.ensures.ordered;
+      texts = texts_changed c.self.inside.items.items c.into_entry-entry.result c.change.new.items.items c.self.invariant.texts (subst (λ (e : Entry). HasLawfulTexts e.key) (sym c.into_entry-entry.ensures) may.follows.texts) c.change.ensures;
+      room = λ some. absurd (omega (arith, some));
+    }
+
+pub returns-clause-stands : goal.returns-clause-stands
+returns-clause-stands g c entries h may =
+    let d = g.D.Disk in
+    let s = c.args.self.now in
+    let journal = ap (λ (x : StoreRecord). x.journal) c.self.view_is in
+    let items = ap (λ (x : StoreRecord). x.items) c.self.view_is in
+    let stands = c.in_ok-append.ensures.stands entries (stands_inside d.tells (d.held c.args.disk.now) (d.pending c.args.disk.now) s c.self.inside.journal entries journal h) (follows_inside s c.self.inside.journal entries c.framed.result.now c.args.ready journal c.framed.ensures may) in
+    let changed = subst (λ (p : List Item × Entry). IsChanged p.0 p.1 c.change.new.items.items) (λ i. (items i, c.into_entry-entry.ensures i)) c.change.ensures in
+    record {
+      stands = subst (λ (e : Entry). StandsOn d.tells (d.held c.append.new.disk) (d.pending c.append.new.disk) c.append.new.self (entries ++ e ∷ [])) c.framed.ensures stands;
+      records = records_changed entries s.items c.args.ready c.change.new.items.items h.records changed;
+    }
