@@ -3,3 +3,4 @@ mod ChangeLemmas
 mod LeftLemmas
 mod NextLemmas
 mod CommitLemmas
+mod OpenLemmas

@@ -27,10 +27,10 @@ const LAST_REVISION: u64 = 1_000_000;
 /// The records of a journal, by key.
 #[derive(Debug, Drop)]
 pub struct Store {
-    items: Vec<Item>,
-    journal: Journal,
+    pub(crate) items: Vec<Item>,
+    pub(crate) journal: Journal,
     // For how many more records a ready call took room.
-    spare: usize,
+    pub(crate) spare: usize,
 }
 
 impl Model for Store {
