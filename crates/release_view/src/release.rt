@@ -237,6 +237,7 @@ impl View {
     pub fn live_best(&self, group: &[u8], resource: &[u8]) -> Option<&VersionTable>
         ensures best { IfSome result (λ t. IsBestTable self.now.versions group.now resource.now t.now) }
         ensures there { is_some result ≡ has_live self.now.versions group.now resource.now }
+        ensures lawful { IfSome result (λ t. AreLawful t.now.rows) }
     {
         match first_live(self.versions.as_slice(), group, resource) {
             Some(version) => Some(&version.table),
