@@ -1,0 +1,4 @@
+pub mod MemberLemmas
+pub mod WholeLemmas
+pub mod SpellLemmas
+pub mod AnswerLemmas

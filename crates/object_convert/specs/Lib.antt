@@ -1,0 +1,4 @@
+pub mod Objects
+pub mod Convert
+pub mod Laws
+pub mod Code
