@@ -1,4 +1,5 @@
 pub mod FloatLemmas
 pub mod ViewLemmas
+pub mod WordLemmas
 pub mod TopLemmas
 pub mod RangeLemmas

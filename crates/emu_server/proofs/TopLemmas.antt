@@ -7,7 +7,7 @@ use Rattle.history_reader.specs.declared.read.HistoryFault.TheVariants as fault
 use Rattle.emu_server.specs.declared.status.Status.{Status}
 use Rattle.emu_server.specs.declared.status.Status.TheVariants as status
 use Rattle.emu_server.specs.declared.words.Command.{Command}
-use Rattle.emu_server.specs.declared.words.Command.TheVariants.{Discover, Gates, Check}
+use Rattle.emu_server.specs.declared.words.Command.TheVariants.{Discover, Gates, Convert, Check}
 use Rattle.emu_server.specs.Answer.{IsReadingRefusal, IsAnswerOnText, IsAnswerTo, IsAnswer}
 use Rattle.history_reader.specs.Meaning.{IsRefused}
 use Rattle.emu_server.specs.Lines.{read_fault_line}
@@ -75,6 +75,10 @@ idle (Gates o f) bytes status.Usage text i h = h.answer.1.2
 idle (Gates o f) bytes status.Memory text i h = h.answer.1.2
 idle (Gates o f) bytes status.ReadFault text i h = h.answer.1.2
 idle (Gates o f) bytes status.WriteFault text i h = h.answer.1.2
+idle (Convert o j t) bytes status.Usage text i h = h.answer.1.2
+idle (Convert o j t) bytes status.Memory text i h = h.answer.1.2
+idle (Convert o j t) bytes status.ReadFault text i h = h.answer.1.2
+idle (Convert o j t) bytes status.WriteFault text i h = h.answer.1.2
 idle Check bytes status.Usage text i h = h.answer.1
 idle Check bytes status.Memory text i h = h.answer.1
 idle Check bytes status.ReadFault text i h = h.answer.1

@@ -27,7 +27,8 @@ use Rattle.emu_server.specs.declared.emulated.VersionFault.{VersionFault}
 use Rattle.emu_server.specs.declared.status.Status.{Status}
 use Rattle.emu_server.specs.declared.status.Status.TheVariants as status
 use Rattle.emu_server.specs.declared.words.Command.{Command}
-use Rattle.emu_server.specs.declared.words.Command.TheVariants.{Discover, Gates as GatesCommand, Check}
+use Rattle.emu_server.specs.declared.words.Command.TheVariants.{Discover, Gates as GatesCommand, Convert, Check}
+use Rattle.emu_server.specs.Conversion.{IsConversionAt}
 use Rattle.emu_server.specs.Emulated.{IsEmulated, IsRefusedVersion}
 use Rattle.emu_server.specs.Lines.{usage_line, reading_line, rule_line, accepted_line, version_line, gate_lines, gate_fault_line, config_fault_line}
 use Rattle.emu_server.specs.Words.{AsksFor, text_of}
@@ -88,6 +89,10 @@ IsGateListingAt entries e features _ text = ⊥
 abbrev pub IsGateListing : Option (List ℕ) → Option (List ℕ) → Dated → Status → List ℕ → Type 0
 IsGateListing emulated features h s text = AtRelease (λ e. IsGateListingAt h.gates e (unwrap_or features [])) emulated h s text
 
+-- what `convert` is to answer on an accepted history
+abbrev pub IsConversion : Option (List ℕ) → List ℕ → List ℕ → Dated → Status → List ℕ → Type 0
+IsConversion emulated json to h s text = AtRelease (λ e. IsConversionAt h e json to) emulated h s text
+
 -- what `check` is to answer on an accepted history
 abbrev pub IsAcceptance : Dated → Status → List ℕ → Type 0
 IsAcceptance h status.Ok text = text ≡ accepted_line h
@@ -97,6 +102,7 @@ IsAcceptance h _ text = ⊥
 abbrev pub IsWork : Command → Dated → Status → List ℕ → Type 0
 IsWork (Discover emulated runtime) h s text = IsListing (text_of emulated) (text_of runtime) h s text
 IsWork (GatesCommand emulated features) h s text = IsGateListing (text_of emulated) (text_of features) h s text
+IsWork (Convert emulated json to) h s text = IsConversion (text_of emulated) json.now to.now h s text
 IsWork Check h s text = IsAcceptance h s text
 
 -- what a command is to answer on a history

@@ -1,9 +1,10 @@
 -- The words of a command line.
-use Rattle.std.specs.Prelude.{ℕ, ◌≡◌, ◌⊎◌, List, [], ◌∷◌, ◌++◌, map, codes, Some, None, option_map}
+use Rattle.std.specs.Prelude.{ℕ, ◌≡◌, ◌==◌, List, [], ◌∷◌, Bool, true, map, codes, Some, None, option_map, is_some, if◌then◌else◌}
+use Rattle.std.specs.List.{filter_map, list_any, list_all}
 use Rattle.std.specs.Borrow.{Bor}
 use Rattle.std.specs.declared.option.Option.{Option}
 use Rattle.emu_server.specs.declared.words.Command.{Command}
-use Rattle.emu_server.specs.declared.words.Command.TheVariants.{Discover, Gates, Check}
+use Rattle.emu_server.specs.declared.words.Command.TheVariants.{Discover, Gates, Convert, Check}
 
 -- the texts of the words
 abbrev pub texts_of : List (Bor (List ℕ)) → List (List ℕ)
@@ -22,25 +23,67 @@ feature_gates = codes "--feature-gates="
 abbrev pub runtime_config : List ℕ
 runtime_config = codes "--runtime-config="
 
--- the option as a word, where it is given
-abbrev pub given : List ℕ → Option (List ℕ) → List (List ℕ)
-given name None = []
-given name (Some value) = (name ++ value) ∷ []
+abbrev pub object_option : List ℕ
+object_option = codes "--object="
 
--- the words give these two options, each at most once, in either order
+abbrev pub to_option : List ℕ
+to_option = codes "--to="
+
+-- what stands behind the front in the text, where the text begins with it
+abbrev pub behind : List ℕ → List ℕ → Option (List ℕ)
+behind [] text = Some text
+behind (c ∷ front) [] = None
+behind (c ∷ front) (d ∷ text) = if c == d then behind front text else None
+
+-- the values that the words give to an option
+abbrev pub values_of : List ℕ → List (List ℕ) → List (List ℕ)
+values_of name words = filter_map (behind name) words
+
+-- an option, and its value where it is given
+pub record Setting : Type 0 where
+  pub name : List ℕ
+  pub value : Option (List ℕ)
+
+abbrev pub setting : List ℕ → Option (List ℕ) → Setting
+setting name value = record { name = name; value = value }
+
+-- the value, where there is one
+abbrev pub value_list : Option (List ℕ) → List (List ℕ)
+value_list None = []
+value_list (Some value) = value ∷ []
+
+-- the word gives one of the options with these names
+abbrev pub gives_one : List (List ℕ) → List ℕ → Bool
+gives_one names word = list_any (λ name. is_some (behind name word)) names
+
+-- each of the options has the value that the words give it, and they give it at most one
+abbrev pub HaveValues : List Setting → List (List ℕ) → Type 0
+HaveValues [] words = Unit {0}
+HaveValues (option ∷ options) words = (values_of option.name words ≡ value_list option.value) × HaveValues options words
+
+-- the words give these options, each at most once, in any order
+pub record Gives (words : List (List ℕ)) (options : List Setting) : Type 0 where
+  pub known : list_all (gives_one (map (λ option. option.name) options)) words ≡ true
+  pub once : HaveValues options words
+
 abbrev pub GivesBoth : List (List ℕ) → List ℕ → List ℕ → Option (List ℕ) → Option (List ℕ) → Type 0
-GivesBoth words first second x y = (words ≡ given first x ++ given second y) ⊎ (words ≡ given second y ++ given first x)
+GivesBoth words first second x y = Gives words (setting first x ∷ setting second y ∷ [])
+
+abbrev pub GivesThree : List (List ℕ) → List ℕ → List ℕ → List ℕ → Option (List ℕ) → Option (List ℕ) → Option (List ℕ) → Type 0
+GivesThree words first second third x y z = Gives words (setting first x ∷ setting second y ∷ setting third z ∷ [])
 
 -- the word that names the command
 abbrev pub command_name : Command → List ℕ
 command_name (Discover emulated runtime) = codes "discover"
 command_name (Gates emulated features) = codes "gates"
+command_name (Convert emulated json to) = codes "convert"
 command_name Check = codes "check"
 
 -- the words are the options of the command
 abbrev pub GivesOptions : List (List ℕ) → Command → Type 0
 GivesOptions words (Discover emulated runtime) = GivesBoth words emulated_version runtime_config (text_of emulated) (text_of runtime)
 GivesOptions words (Gates emulated features) = GivesBoth words emulated_version feature_gates (text_of emulated) (text_of features)
+GivesOptions words (Convert emulated json to) = GivesThree words emulated_version object_option to_option (text_of emulated) (Some json.now) (Some to.now)
 GivesOptions words Check = words ≡ []
 
 -- the words ask for this command

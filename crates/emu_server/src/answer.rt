@@ -1,6 +1,6 @@
 //! What the program answers to a command and the bytes of a history.
 ghost use Rattle.std.specs.Prelude.{◌≡◌, [], IfOk, string_bytes, unwrap_or};
-ghost use Rattle.emu_server.specs.Answer.{IsGroupListLine, IsListingAt, IsListing, IsGateListingAt, IsGateListing, IsAcceptance, IsWork, IsAnswerOn, IsAnswerTo};
+ghost use Rattle.emu_server.specs.Answer.{IsGroupListLine, IsListingAt, IsListing, IsGateListingAt, IsGateListing, IsConversion, IsAcceptance, IsWork, IsAnswerOn, IsAnswerTo};
 ghost use Rattle.emu_server.specs.Lines.{reading_line, rule_line, version_line, gate_lines, gate_fault_line, config_fault_line};
 ghost use Rattle.flag_text.specs.Pieces.{pieces};
 ghost use Rattle.lifecycle.specs.Tables.{cutoff};
@@ -14,6 +14,7 @@ use crate::emulated::{VersionFault, emulated_release};
 use crate::gates::{gate_refusal, listed_gates};
 use crate::groups::{config_refusal, group_list_line};
 use crate::lines::{acceptance, reading_refusal, rule_refusal, version_refusal};
+use crate::objects::conversion_at;
 use crate::status::Status;
 use crate::words::Command;
 use basis::Memory;
@@ -164,6 +165,22 @@ fn gate_listing(
     }
 }
 
+/// An object in another version of its resource by a release, or why the release or the object is refused.
+fn conversion(
+    alloc: Global,
+    emulated: Option<&str>,
+    object: &str,
+    to: &str,
+    accepted: &Accepted,
+) -> Result<Answer, Memory>
+    ensures { IfOk result (λ a. IsConversion (text_of emulated.entry) object.now to.now accepted.now a.status (string_bytes a.text)) }
+{
+    match emulated_release(emulated, accepted) {
+        Ok(e) => conversion_at(alloc, accepted, e, object, to),
+        Err(fault) => refused_version(alloc, accepted, fault),
+    }
+}
+
 /// The text, or the empty one.
 fn text_or_empty(text: Option<&str>) -> &str
     ensures { result.now ≡ unwrap_or (text_of text.entry) [] }
@@ -192,6 +209,11 @@ fn work(alloc: Global, command: Command<'_>, accepted: &Accepted) -> Result<Answ
     match command {
         Command::Discover { emulated, runtime } => listing(alloc, emulated, runtime, accepted),
         Command::Gates { emulated, features } => gate_listing(alloc, emulated, features, accepted),
+        Command::Convert {
+            emulated,
+            object,
+            to,
+        } => conversion(alloc, emulated, object, to, accepted),
         Command::Check => approval(alloc, accepted),
     }
 }

@@ -36,7 +36,7 @@ fn default_gates(alloc: Global, entries: &[GateEntry], e: Minor) -> Result<GateV
 }
 
 /// The view of a release that serves these versions by its runtime configuration, with its gates as they are by default.
-fn viewed(
+pub fn viewed(
     alloc: Global,
     accepted: &Accepted,
     e: Minor,

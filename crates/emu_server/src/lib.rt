@@ -6,6 +6,7 @@ mod emulated;
 mod gates;
 mod groups;
 mod lines;
+mod objects;
 mod run;
 mod status;
 mod taking;

@@ -1,7 +1,8 @@
 //! The words of the command line.
-ghost use Rattle.std.specs.Prelude.{◌≡◌, ◌≢◌, ◌++◌, ◌∷◌, [], ℕ, List, IfSome, IfNone, codes, Some, None};
+ghost use Rattle.std.specs.Prelude.{◌≡◌, ◌≢◌, ◌++◌, ◌∷◌, [], ℕ, List, IfSome, IfNone, codes, is_some};
+ghost use Rattle.std.specs.List.{list_any, list_all};
 ghost use Rattle.std.specs.declared.option.Option.{Option as TheOption};
-ghost use Rattle.emu_server.specs.Words.{AsksFor, GivesBoth, GivesOptions, command_name, texts_of, text_of};
+ghost use Rattle.emu_server.specs.Words.{AsksFor, GivesBoth, GivesThree, gives_one, GivesOptions, behind, command_name, texts_of, text_of, value_list, values_of};
 ghost use Rattle.emu_server.specs.declared.words.Command.{Command as TheCommand};
 
 const EMULATED_VERSION: &str = "--emulated-version=";
@@ -9,6 +10,10 @@ const EMULATED_VERSION: &str = "--emulated-version=";
 const FEATURE_GATES: &str = "--feature-gates=";
 
 const RUNTIME_CONFIG: &str = "--runtime-config=";
+
+const OBJECT: &str = "--object=";
+
+const TO: &str = "--to=";
 
 /// What the words ask for.
 #[derive(Clone, Copy, Debug)]
@@ -23,6 +28,12 @@ pub enum Command<'a> {
         emulated: Option<&'a str>,
         features: Option<&'a str>,
     },
+    /// An object in another version of its resource.
+    Convert {
+        emulated: Option<&'a str>,
+        object: &'a str,
+        to: &'a str,
+    },
     /// Whether the history is accepted.
     Check,
 }
@@ -30,64 +41,88 @@ pub enum Command<'a> {
 /// The values that two options may have.
 type Two<'a> = (Option<&'a str>, Option<&'a str>);
 
-/// The value of an option, if the word gives it: all that stands behind `--name=`.
-fn value_of<'a>(word: &'a str, name: &str) -> Option<&'a str>
+/// The values that three options may have.
+type Three<'a> = (Option<&'a str>, Option<&'a str>, Option<&'a str>);
+
+fn stripped<'a>(word: &'a str, name: &str) -> Option<&'a str>
     ensures some { IfSome result (λ v. word.now ≡ name.now ++ v.now) }
     ensures none { IfNone result ((v : List ℕ) → word.now ≢ name.now ++ v) }
 {
     word.strip_prefix(name)
 }
 
-/// The values of the two options, where the words give the first and then the second.
-fn in_order<'a>(a: &'a str, b: &'a str, first: &str, second: &str) -> Option<(&'a str, &'a str)>
-    ensures some { IfSome result (λ v. (a.now ≡ first.now ++ v.0.now) × (b.now ≡ second.now ++ v.1.now)) }
-    ensures none { IfNone result ((x y : List ℕ) → a.now ≡ first.now ++ x → b.now ≡ second.now ++ y → ⊥) }
+/// The value of an option, if the word gives it: all that stands behind `--name=`.
+fn value_of<'a>(word: &'a str, name: &str) -> Option<&'a str>
+    ensures { text_of result ≡ behind name.now word.now }
 {
-    let Some(x) = value_of(a, first) else {
+    stripped(word, name)
+}
+
+/// The value of an option that the words give at most once. None where they give it more often.
+fn only_value<'a>(words: &[&'a str], name: &str) -> Option<Option<&'a str>>
+    ensures some { IfSome result (λ o. values_of name.now (texts_of words.now) ≡ value_list (text_of o)) }
+    ensures none { IfNone result ((x : TheOption (List ℕ)) → values_of name.now (texts_of words.now) ≢ value_list x) }
+{
+    let mut found = None;
+    for word in words {
+        let Some(value) = value_of(word, name) else {
+            continue;
+        };
+        if found.is_some() {
+            return None;
+        }
+        found = Some(value);
+    }
+    Some(found)
+}
+
+fn gives_one(word: &str, names: &[&str]) -> bool
+    ensures { result ≡ list_any (λ name. is_some (behind name.now word.now)) names.now }
+{
+    names.iter().any(|name| value_of(word, name).is_some())
+}
+
+/// Whether each word gives one of the options with these names.
+fn give_options(words: &[&str], names: &[&str]) -> bool
+    ensures { result ≡ list_all (gives_one (texts_of names.now)) (texts_of words.now) }
+{
+    words.iter().all(|word| gives_one(word, names))
+}
+
+/// The values of the two options that the words may give, in any order.
+fn two_options<'a>(words: &[&'a str], first: &str, second: &str) -> Option<Two<'a>>
+    ensures some { IfSome result (λ o. GivesBoth (texts_of words.now) first.now second.now (text_of o.0) (text_of o.1)) }
+    ensures none { IfNone result ((x y : TheOption (List ℕ)) → ¬ GivesBoth (texts_of words.now) first.now second.now x y) }
+{
+    if !give_options(words, &[first, second]) {
+        return None;
+    }
+    let Some(x) = only_value(words, first) else {
         return None;
     };
-    match value_of(b, second) {
+    match only_value(words, second) {
         Some(y) => Some((x, y)),
         None => None,
     }
 }
 
-fn from_one_word<'a>(word: &'a str, first: &str, second: &str) -> Option<Two<'a>>
-    ensures some { IfSome result (λ o. GivesBoth (word.now ∷ []) first.now second.now (text_of o.0) (text_of o.1)) }
-    ensures none { IfNone result ((x y : TheOption (List ℕ)) → ¬ GivesBoth (word.now ∷ []) first.now second.now x y) }
+/// The values of the three options that the words may give, in any order.
+fn three_options<'a>(words: &[&'a str], first: &str, second: &str, third: &str) -> Option<Three<'a>>
+    ensures some { IfSome result (λ o. GivesThree (texts_of words.now) first.now second.now third.now (text_of o.0) (text_of o.1) (text_of o.2)) }
+    ensures none { IfNone result ((x y z : TheOption (List ℕ)) → ¬ GivesThree (texts_of words.now) first.now second.now third.now x y z) }
 {
-    if let Some(x) = value_of(word, first) {
-        return Some((Some(x), None));
+    if !give_options(words, &[first, second, third]) {
+        return None;
     }
-    match value_of(word, second) {
-        Some(y) => Some((None, Some(y))),
+    let Some(x) = only_value(words, first) else {
+        return None;
+    };
+    let Some(y) = only_value(words, second) else {
+        return None;
+    };
+    match only_value(words, third) {
+        Some(z) => Some((x, y, z)),
         None => None,
-    }
-}
-
-fn from_two_words<'a>(a: &'a str, b: &'a str, first: &str, second: &str) -> Option<Two<'a>>
-    ensures some { IfSome result (λ o. GivesBoth (a.now ∷ b.now ∷ []) first.now second.now (text_of o.0) (text_of o.1)) }
-    ensures none { IfNone result ((x y : TheOption (List ℕ)) → ¬ GivesBoth (a.now ∷ b.now ∷ []) first.now second.now x y) }
-{
-    if let Some((x, y)) = in_order(a, b, first, second) {
-        return Some((Some(x), Some(y)));
-    }
-    match in_order(b, a, first, second) {
-        Some((x, y)) => Some((Some(x), Some(y))),
-        None => None,
-    }
-}
-
-/// The values of the two options that the words may give, in either order.
-fn two_options<'a>(words: &[&'a str], first: &str, second: &str) -> Option<Two<'a>>
-    ensures some { IfSome result (λ o. GivesBoth (texts_of words.now) first.now second.now (text_of o.0) (text_of o.1)) }
-    ensures none { IfNone result ((x y : TheOption (List ℕ)) → ¬ GivesBoth (texts_of words.now) first.now second.now x y) }
-{
-    match words.len() {
-        0 => Some((None, None)),
-        1 => from_one_word(words[0], first, second),
-        2 => from_two_words(words[0], words[1], first, second),
-        _ => None,
     }
 }
 
@@ -107,6 +142,26 @@ fn gates<'a>(options: &[&'a str]) -> Option<Command<'a>>
 {
     match two_options(options, EMULATED_VERSION, FEATURE_GATES) {
         Some((emulated, features)) => Some(Command::Gates { emulated, features }),
+        None => None,
+    }
+}
+
+fn convert<'a>(options: &[&'a str]) -> Option<Command<'a>>
+    ensures some { IfSome result (λ c. (command_name c ≡ codes "convert") × GivesOptions (texts_of options.now) c) }
+    ensures none { IfNone result ((c : TheCommand) → command_name c ≡ codes "convert" → ¬ GivesOptions (texts_of options.now) c) }
+{
+    let Some((emulated, object, to)) = three_options(options, EMULATED_VERSION, OBJECT, TO) else {
+        return None;
+    };
+    let Some(object) = object else {
+        return None;
+    };
+    match to {
+        Some(to) => Some(Command::Convert {
+            emulated,
+            object,
+            to,
+        }),
         None => None,
     }
 }
@@ -134,6 +189,7 @@ pub fn read_words<'a>(words: &[&'a str]) -> Option<Command<'a>>
     match words[0] {
         "discover" => discover(options),
         "gates" => gates(options),
+        "convert" => convert(options),
         "check" => check(options),
         _ => None,
     }

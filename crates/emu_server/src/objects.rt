@@ -1,0 +1,137 @@
+//! The answers of the command `convert`.
+ghost use Rattle.std.specs.Prelude.{◌≡◌, ◌++◌, ◌∷◌, [], false, IfOk, codes, string_bytes};
+ghost use Rattle.std.specs.List.{flat_map};
+ghost use Rattle.conversion.specs.Causes.{cause_text};
+ghost use Rattle.minor_version.specs.Ranges.{IsEmulable};
+ghost use Rattle.schemas.specs.Rules.{first_of, last_of};
+ghost use Rattle.serde_json.specs.View.{view as tree_of};
+ghost use Rattle.serde_json.specs.Written.{has_float, compact_text};
+ghost use Rattle.emu_server.specs.Conversion.{dotted, convert_fault_line, IsDefaultView, IsConversionAt};
+
+use crate::answer::Answer;
+use crate::groups::viewed;
+use crate::status::Status;
+use basis::Memory;
+use conversion::ReadCause;
+use minor_version::{Minor, Text};
+use object_convert::{ConvertFault, convert};
+use release_view::View;
+use runtime_config::{ConfigFault, enabled_at};
+use schemas::Accepted;
+use serde_json::Value;
+use std::alloc::{AllocError, Global};
+
+/// The text, and behind it each name with a dot before it.
+fn with_inner(front: String, names: &[Text]) -> Result<String, AllocError>
+    ensures { IfOk result (λ s. string_bytes s ≡ string_bytes front ++ flat_map (λ name. codes "." ++ name) names.now) }
+{
+    let mut text = front;
+    for name in names {
+        let Ok(()) = text.push_str(".") else {
+            return Err(AllocError);
+        };
+        let Ok(()) = text.push_str(name.as_str()) else {
+            return Err(AllocError);
+        };
+    }
+    Ok(text)
+}
+
+/// The names of a path, joined by dots.
+fn joined(alloc: Global, path: &[Text]) -> Result<String, AllocError>
+    ensures { IfOk result (λ s. string_bytes s ≡ dotted path.now) }
+{
+    match path {
+        [] => Ok(String::new(alloc)),
+        [first, rest @ ..] => with_inner(String::from_str(alloc, first.as_str())?, rest),
+    }
+}
+
+fn unreadable_line(alloc: Global, path: &str, cause: &str) -> Result<String, AllocError>
+    ensures { IfOk result (λ s. string_bytes s ≡ codes "object: " ++ (path.now ++ (codes ": " ++ (cause.now ++ codes "\n")))) }
+{
+    format!(in alloc; "object: {path}: {cause}\n")
+}
+
+fn unreadable(alloc: Global, path: &[Text], cause: ReadCause) -> Result<String, AllocError>
+    ensures { IfOk result (λ s. string_bytes s ≡ codes "object: " ++ (dotted path.now ++ (codes ": " ++ (cause_text cause ++ codes "\n")))) }
+{
+    let path = joined(alloc, path)?;
+    unreadable_line(alloc, path.as_str(), cause.text())
+}
+
+/// Why an object isn't converted.
+fn convert_refusal(alloc: Global, fault: &ConvertFault) -> Result<String, AllocError>
+    ensures { IfOk result (λ s. string_bytes s ≡ convert_fault_line fault.now) }
+{
+    match fault {
+        ConvertFault::NotAnObject => String::from_str(alloc, "object: not a JSON object\n"),
+        ConvertFault::UnknownVersion => String::from_str(alloc, "object: unknown version\n"),
+        ConvertFault::Bad { path, cause } => unreadable(alloc, path.items(), *cause),
+        ConvertFault::UnknownTarget => String::from_str(alloc, "to: unknown version\n"),
+        ConvertFault::Memory => String::from_str(alloc, ""),
+    }
+}
+
+fn refused_object(alloc: Global, fault: &ConvertFault) -> Result<Answer, Memory>
+    ensures { IfOk result (λ a. (a.status ≡ Status.Flags) × (string_bytes a.text ≡ convert_fault_line fault.now)) }
+{
+    let text = convert_refusal(alloc, fault)?;
+    Ok(Answer {
+        status: Status::Flags,
+        text,
+    })
+}
+
+/// The text of an object, in compact JSON, and one line feed.
+fn object_line(alloc: Global, json: &Value) -> Result<String, AllocError>
+    requires { has_float (tree_of json.now) ≡ false }
+    ensures { IfOk result (λ s. string_bytes s ≡ compact_text (tree_of json.now) ++ 10 ∷ []) }
+{
+    let mut text = json.to_string(alloc)?;
+    text.push_str("\n")?;
+    Ok(text)
+}
+
+fn shown_object(alloc: Global, json: &Value) -> Result<Answer, Memory>
+    requires { has_float (tree_of json.now) ≡ false }
+    ensures { IfOk result (λ a. (a.status ≡ Status.Ok) × (string_bytes a.text ≡ compact_text (tree_of json.now) ++ 10 ∷ [])) }
+{
+    let text = object_line(alloc, json)?;
+    Ok(Answer {
+        status: Status::Ok,
+        text,
+    })
+}
+
+/// The view of a release with its gates and its served versions as they are by default.
+fn default_view(alloc: Global, accepted: &Accepted, e: Minor) -> Result<View, Memory>
+    requires { IsEmulable (first_of accepted.now) (last_of accepted.now) e }
+    ensures { IfOk result (λ v. IsDefaultView accepted.now e v) }
+{
+    let entries = accepted.history().apis.items();
+    match enabled_at(alloc, entries, e, b"") {
+        Ok(on) => viewed(alloc, accepted, e, "", on),
+        Err(ConfigFault::Memory) => Err(Memory),
+        Err(_) => unreachable!(),
+    }
+}
+
+/// An object in another version of its resource by a release, or why there is none.
+pub fn conversion_at(
+    alloc: Global,
+    accepted: &Accepted,
+    e: Minor,
+    object: &str,
+    to: &str,
+) -> Result<Answer, Memory>
+    requires { IsEmulable (first_of accepted.now) (last_of accepted.now) e }
+    ensures { IfOk result (λ a. IsConversionAt accepted.now e object.now to.now a.status (string_bytes a.text)) }
+{
+    let view = default_view(alloc, accepted, e)?;
+    match convert(alloc, &view, object, to) {
+        Ok(json) => shown_object(alloc, &json),
+        Err(ConvertFault::Memory) => Err(Memory),
+        Err(fault) => refused_object(alloc, &fault),
+    }
+}
