@@ -3,13 +3,14 @@ use Rattle.std.specs.Prelude.{ℕ, ◌≡◌, ◌≢◌, List, [], ◌∷◌, �
 use Rattle.std.specs.List.{flat_map}
 use Rattle.conversion.specs.Causes.{cause_text}
 use Rattle.flag_text.specs.Pieces.{pieces}
+use Rattle.gate_flags.specs.Values.{AreGateValues}
+use Rattle.gate_spec.specs.Gates.{cutoff as gate_cutoff}
 use Rattle.lifecycle.specs.Entry.{GroupVersionResource}
 use Rattle.lifecycle.specs.Tables.{cutoff}
 use Rattle.object_convert.specs.Convert.{Converts, IsConvertFault}
 use Rattle.object_convert.specs.declared.fault.ConvertFault.{ConvertFault}
 use Rattle.object_convert.specs.declared.fault.ConvertFault.TheVariants as fault
-use Rattle.release_view.specs.Known.{AreKnown}
-use Rattle.release_view.specs.Views.{Viewed}
+use Rattle.release_view.specs.Views.{Viewed, IsViewOf}
 use Rattle.runtime_config.specs.Config.{AreServed}
 use Rattle.schemas.specs.Dated.{Dated}
 use Rattle.serde_json.specs.Data.{Data}
@@ -35,8 +36,11 @@ convert_fault_line fault.Memory = codes ""
 -- ---- answers
 
 -- the view of the release with its gates and its served versions as they are by default
-abbrev pub IsDefaultView : Dated → ℕ → Viewed → Type 0
-IsDefaultView h e view = (on : List GroupVersionResource) × AreServed (cutoff h.apis e) (pieces []) on × AreKnown (cutoff h.apis e) on view.versions
+pub record IsDefaultView (h : Dated) (e : ℕ) (view : Viewed) : Type 0 where
+  pub on : List GroupVersionResource
+  pub served : AreServed (cutoff h.apis e) (pieces []) on
+  pub valued : AreGateValues (gate_cutoff h.gates e) (pieces []) view.gates
+  pub viewed : IsViewOf h e view.gates on view
 
 -- the text is that of the object in the version `to` of its resource, in compact JSON, and one line feed
 abbrev pub IsObjectLine : Viewed → List ℕ → List ℕ → List ℕ → Type 0

@@ -4,7 +4,7 @@ ghost use Rattle.emu_server.specs.Answer.{IsGroupListLine, IsListingAt, IsListin
 ghost use Rattle.emu_server.specs.Lines.{reading_line, rule_line, version_line, gate_lines, gate_fault_line, config_fault_line};
 ghost use Rattle.flag_text.specs.Pieces.{pieces};
 ghost use Rattle.lifecycle.specs.Tables.{cutoff};
-ghost use Rattle.runtime_config.specs.Config.{IsRuntimeText, AreServed};
+ghost use Rattle.runtime_config.specs.Config.{IsRuntimeText, IsTextFault as IsConfigFault, AreServed};
 ghost use Rattle.minor_version.specs.Ranges.{IsEmulable};
 ghost use Rattle.gate_spec.specs.Gates.{RisesInDate};
 ghost use Rattle.emu_server.specs.Words.{text_of};
@@ -80,6 +80,23 @@ fn listed_groups(
     })
 }
 
+/// Why a release refuses a runtime configuration.
+fn refused_listing(
+    alloc: Global,
+    accepted: &Accepted,
+    e: Minor,
+    runtime: &str,
+    fault: ConfigFault,
+) -> Result<Answer, Memory>
+    requires { IsConfigFault accepted.now.apis e runtime.now fault }
+    ensures { IfOk result (λ a. IsListingAt accepted.now e runtime.now a.status (string_bytes a.text)) }
+{
+    match fault {
+        ConfigFault::Memory => Err(Memory),
+        fault => refused_config(alloc, fault),
+    }
+}
+
 /// The group list of a release under a runtime configuration, or why it refuses the configuration.
 fn listing_at(alloc: Global, accepted: &Accepted, e: Minor, runtime: &str) -> Result<Answer, Memory>
     requires { IsEmulable (first_of accepted.now) (last_of accepted.now) e }
@@ -88,8 +105,7 @@ fn listing_at(alloc: Global, accepted: &Accepted, e: Minor, runtime: &str) -> Re
     let entries = accepted.history().apis.items();
     match enabled_at(alloc, entries, e, runtime.as_bytes()) {
         Ok(on) => listed_groups(alloc, accepted, e, runtime, on),
-        Err(ConfigFault::Memory) => Err(Memory),
-        Err(fault) => refused_config(alloc, fault),
+        Err(fault) => refused_listing(alloc, accepted, e, runtime, fault),
     }
 }
 
