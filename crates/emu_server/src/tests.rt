@@ -207,6 +207,47 @@ fn discovers_under_a_configuration(rt: HostRuntime) -> Result<(), Fail> {
     Ok(())
 }
 
+// Words, the number of the status, and the line that is written.
+const CONVERSIONS: &str =
+    r#"convert --emulated-version=1.30 --to=demo.example/v1 --object={"apiVersion":"demo.example/v1beta1","kind":"Widget","spec":{"size":3,"active":false}} | 0 | {"apiVersion":"demo.example/v1","kind":"Widget","spec":{"dimensions":{"size":3},"paused":true}}
+convert --object={"apiVersion":"demo.example/v1","kind":"Widget","metadata":{"name":"a"}} --to=demo.example/v1beta1 | 0 | {"apiVersion":"demo.example/v1beta1","kind":"Widget","metadata":{"name":"a"}}
+convert --object={"apiVersion":"demo.example/v1beta1","kind":"Widget","spec":{"size":"x"}} --to=demo.example/v1 | 9 | object: spec.size: not a whole number
+convert --object={"apiVersion":"demo.example/v1","kind":"Widget"} --to= | 9 | to: unknown version
+convert --object={} --to=demo.example/v1 | 9 | object: unknown version
+convert --object= --to=demo.example/v1 | 9 | object: not a JSON object
+convert --object= --to= --emulated-version=1.29 | 9 | emulated-version: out of range 1.30 to 1.33
+convert --object={} | 2 | usage: kube_emu <command> [options]
+convert --to=a --object={} --to=a | 2 | usage: kube_emu <command> [options]
+convert --to=a --object={} --runtime-config= | 2 | usage: kube_emu <command> [options]"#;
+
+fn words_of<'a>(alloc: Global, text: &'a str) -> Result<Vec<&'a str>, Fail> {
+    let mut words = Vec::new(alloc);
+    for word in text.split_whitespace() {
+        words.push(word)?;
+    }
+    Ok(words)
+}
+
+fn converted(alloc: Global, words: &str) -> Result<String, Fail> {
+    let words = words_of(alloc, words)?;
+    let (status, sink) = ended(alloc, words.as_slice(), EXAMPLE.as_bytes(), &[], &[])?;
+    let Ok(line) = str::from_utf8(sink.written()) else {
+        return Err(Fail::from("no text"));
+    };
+    Ok(format!(in alloc; "{} | {line}", status.number())?)
+}
+
+#[test]
+fn converts(rt: HostRuntime) -> Result<(), Fail> {
+    let alloc = rt.alloc();
+    for case in CONVERSIONS.lines() {
+        let (words, want) = case.split_once(" | ").ok_or("words")?;
+        let answer = converted(alloc, words)?;
+        assert_eq!(rt; answer.trim_end(), want, "{case}");
+    }
+    Ok(())
+}
+
 #[test]
 fn histories_that_are_refused(rt: HostRuntime) -> Result<(), Fail> {
     let alloc = rt.alloc();

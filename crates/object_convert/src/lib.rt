@@ -6,6 +6,8 @@ mod fault;
 mod law;
 mod number;
 mod object;
+#[cfg(test)]
+mod tests;
 mod whole;
 
 pub use converting::convert;
