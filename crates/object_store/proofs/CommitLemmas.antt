@@ -1,6 +1,7 @@
 -- What a stop in a commit leaves.
 use Rattle.std.proofs.Common.{◌≡◌, inl, inr, ⊎_elim, ℕ, ◌+◌, List, [], ◌∷◌, ◌++◌, sym, subst, arith}
-use Rattle.std.specs.Prelude.{Result, Ok, Err, IfOk}
+use Rattle.std.specs.Prelude.{Result, Ok, Err, IfOk, OnOk, is_ok, true}
+use Rattle.std.proofs.lemmas.Bool.{false≢true}
 use Rattle.disk.specs.declared.file.File.{File}
 use Rattle.disk.specs.Images.{Pending, Images}
 use Rattle.disk.specs.Moments.{Moments}
@@ -54,3 +55,7 @@ pub commit_moments : {D : Type 0} (tells : Type 0) (clock : D → ℕ) (may_leav
 commit_moments tells clock may_leave held pending old new s j entries f e is framed h may m =
     weaker clock may_leave old new (λ _. LeavesEither (pending old) j.base entries f) (λ _. LeavesRecords (pending old) s e)
     (λ t i above le l. leaves_records (pending old) s entries e i h.stands.revision h.records may (subst (λ (p : Journal × Entry). LeavesEither (pending old) p.0.base entries p.1 i) (λ k. (is k, framed k)) l)) m
+
+pub at_ok : {T E : Type 0} (r : Result T E) (P : Type 0) → is_ok r ≡ true → OnOk r P → P
+at_ok (Ok x) P ok p = p
+at_ok (Err e) P ok p = absurd (false≢true ok)

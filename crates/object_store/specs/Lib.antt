@@ -1,3 +1,4 @@
 pub mod Records
 pub mod Left
 pub mod Stores
+pub mod StoreLaws
