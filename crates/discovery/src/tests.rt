@@ -92,98 +92,6 @@ fn metrics_text(alloc: Global, view: &View) -> Result<String, Fail> {
     }
 }
 
-fn page(
-    alloc: Global,
-    view: &View,
-    what: &str,
-    group_name: &str,
-    version: &str,
-) -> Result<String, Fail> {
-    let name = group_name.as_bytes();
-    match what {
-        "groups" => text_of(alloc, Some(group_list(alloc, view)?)),
-        "group" => text_of(alloc, group(alloc, view, name)?),
-        "resources" => text_of(alloc, resource_list(alloc, view, name, version.as_bytes())?),
-        "metrics" => metrics_text(alloc, view),
-        _ => Err(Fail::from("no page")),
-    }
-}
-
-/// The page that the words ask for, or `none`.
-fn asked_page(alloc: Global, words: &str) -> Result<String, Fail> {
-    let mut words = words.split_whitespace();
-    let e = release(words.next().unwrap_or(""))?;
-    let what = words.next().unwrap_or("");
-    let group = words.next().unwrap_or("");
-    let version = words.next().unwrap_or("");
-    page(alloc, &view_of(alloc, e)?, what, group, version)
-}
-
-fn pages(rt: &impl Abort, alloc: Global, cases: &[(&str, &str)]) -> Result<(), Fail> {
-    for (words, want) in cases {
-        let got = asked_page(alloc, words)?;
-        assert_eq!(rt; got.as_str(), *want, "{words}");
-    }
-    Ok(())
-}
-
-#[test]
-fn groups_of_a_release(rt: HostRuntime) -> Result<(), Fail> {
-    pages(
-        &rt,
-        rt.alloc(),
-        &[
-            (
-                "33 groups",
-                r#"{"apiVersion":"v1","groups":[{"name":"demo.example","preferredVersion":{"groupVersion":"demo.example/v1","version":"v1"},"versions":[{"groupVersion":"demo.example/v1","version":"v1"}]}],"kind":"APIGroupList"}"#,
-            ),
-            (
-                "30 groups",
-                r#"{"apiVersion":"v1","groups":[{"name":"demo.example","preferredVersion":{"groupVersion":"demo.example/v1","version":"v1"},"versions":[{"groupVersion":"demo.example/v1","version":"v1"},{"groupVersion":"demo.example/v1beta1","version":"v1beta1"}]}],"kind":"APIGroupList"}"#,
-            ),
-            (
-                "30 group demo.example",
-                r#"{"apiVersion":"v1","kind":"APIGroup","name":"demo.example","preferredVersion":{"groupVersion":"demo.example/v1","version":"v1"},"versions":[{"groupVersion":"demo.example/v1","version":"v1"},{"groupVersion":"demo.example/v1beta1","version":"v1beta1"}]}"#,
-            ),
-            ("30 group other", "none"),
-            // The core group, whose name is empty.
-            ("30 group", "none"),
-        ],
-    )
-}
-
-#[test]
-fn resources_and_gates(rt: HostRuntime) -> Result<(), Fail> {
-    pages(
-        &rt,
-        rt.alloc(),
-        &[
-            (
-                "30 resources demo.example v1",
-                r#"{"apiVersion":"v1","groupVersion":"demo.example/v1","kind":"APIResourceList","resources":[{"kind":"Widget","name":"widgets","namespaced":true,"singularName":"widget","verbs":["create","delete","get","list","update"]}]}"#,
-            ),
-            ("30 resources other v1", "none"),
-            (
-                "31 metrics",
-                "# HELP kubernetes_feature_enabled Whether a feature gate is on at the emulated version.\n# TYPE kubernetes_feature_enabled gauge\nkubernetes_feature_enabled{name=\"SlowMode\",stage=\"\"} 1\nkubernetes_feature_enabled{name=\"WidgetColor\",stage=\"BETA\"} 1\n",
-            ),
-        ],
-    )
-}
-
-#[test]
-fn releases_of_a_server(rt: HostRuntime) -> Result<(), Fail> {
-    let alloc = rt.alloc();
-    let emulated = release("30")?;
-    let page = version_info(alloc, release("33")?, emulated, emulated)?;
-    let text = page.to_string(alloc)?;
-    assert_eq!(rt;
-        text.as_str(),
-        r#"{"emulation":"1.30","minCompatibility":"1.30","release":"1.33"}"#
-    );
-    Ok(())
-}
-
 fn widgets<'a>(version: &'a str) -> ApiName<'a> {
     ApiName {
         group: b"demo.example",
@@ -235,32 +143,107 @@ fn looked_up(alloc: Global, view: &View, what: &str, of: &str) -> Result<String,
     Ok(String::from_str(alloc, answer)?)
 }
 
-#[test]
-fn look_ups_of_a_view(rt: HostRuntime) -> Result<(), Fail> {
-    let alloc = rt.alloc();
-    for (words, want) in [
-        ("33 release", "33"),
-        ("33 served", "1"),
-        ("33 find v1beta1", "none"),
-        ("33 table v1beta1", "found"),
-        ("33 live gadgets", "yes"),
-        ("33 gate SlowMode", "yes"),
-        ("30 find v1beta1", "found"),
-        ("30 live gadgets", "no"),
-        ("30 best", "v1"),
-        ("30 warning v1beta1", "30 33 v1"),
-        ("30 warning v1", "none"),
-    ] {
-        let got = answer(alloc, words)?;
-        assert_eq!(rt; got.as_str(), want, "{words}");
+fn releases(alloc: Global, n: Minor, e: Minor) -> Result<String, Fail> {
+    let page = version_info(alloc, n, e, e)?;
+    Ok(page.to_string(alloc)?)
+}
+
+/// What is asked of the view: a page, with the words behind it as its group and version, or what is looked up.
+fn told(alloc: Global, view: &View, what: &str, first: &str, second: &str) -> Result<String, Fail> {
+    let name = first.as_bytes();
+    match what {
+        "groups" => text_of(alloc, Some(group_list(alloc, view)?)),
+        "group" => text_of(alloc, group(alloc, view, name)?),
+        "resources" => text_of(alloc, resource_list(alloc, view, name, second.as_bytes())?),
+        "metrics" => metrics_text(alloc, view),
+        "releases" => releases(alloc, release(first)?, view.minor()),
+        _ => looked_up(alloc, view, what, first),
     }
-    Ok(())
 }
 
 fn answer(alloc: Global, words: &str) -> Result<String, Fail> {
     let mut words = words.split_whitespace();
     let e = release(words.next().unwrap_or(""))?;
     let what = words.next().unwrap_or("");
-    let of = words.next().unwrap_or("");
-    looked_up(alloc, &view_of(alloc, e)?, what, of)
+    let first = words.next().unwrap_or("");
+    let second = words.next().unwrap_or("");
+    told(alloc, &view_of(alloc, e)?, what, first, second)
+}
+
+fn answers(rt: &impl Abort, alloc: Global, cases: &[(&str, &str)]) -> Result<(), Fail> {
+    for (words, wanted) in cases {
+        let found = answer(alloc, words)?;
+        assert_eq!(rt; found.as_str(), *wanted, "{words}");
+    }
+    Ok(())
+}
+
+#[test]
+fn groups_of_a_release(rt: HostRuntime) -> Result<(), Fail> {
+    answers(
+        &rt,
+        rt.alloc(),
+        &[
+            (
+                "33 groups",
+                r#"{"apiVersion":"v1","groups":[{"name":"demo.example","preferredVersion":{"groupVersion":"demo.example/v1","version":"v1"},"versions":[{"groupVersion":"demo.example/v1","version":"v1"}]}],"kind":"APIGroupList"}"#,
+            ),
+            (
+                "30 groups",
+                r#"{"apiVersion":"v1","groups":[{"name":"demo.example","preferredVersion":{"groupVersion":"demo.example/v1","version":"v1"},"versions":[{"groupVersion":"demo.example/v1","version":"v1"},{"groupVersion":"demo.example/v1beta1","version":"v1beta1"}]}],"kind":"APIGroupList"}"#,
+            ),
+            (
+                "30 group demo.example",
+                r#"{"apiVersion":"v1","kind":"APIGroup","name":"demo.example","preferredVersion":{"groupVersion":"demo.example/v1","version":"v1"},"versions":[{"groupVersion":"demo.example/v1","version":"v1"},{"groupVersion":"demo.example/v1beta1","version":"v1beta1"}]}"#,
+            ),
+            ("30 group other", "none"),
+            // The core group, whose name is empty.
+            ("30 group", "none"),
+        ],
+    )
+}
+
+#[test]
+fn resources_gates_and_releases(rt: HostRuntime) -> Result<(), Fail> {
+    answers(
+        &rt,
+        rt.alloc(),
+        &[
+            (
+                "30 resources demo.example v1",
+                r#"{"apiVersion":"v1","groupVersion":"demo.example/v1","kind":"APIResourceList","resources":[{"kind":"Widget","name":"widgets","namespaced":true,"singularName":"widget","verbs":["create","delete","get","list","update"]}]}"#,
+            ),
+            ("30 resources other v1", "none"),
+            (
+                "31 metrics",
+                "# HELP kubernetes_feature_enabled Whether a feature gate is on at the emulated version.\n# TYPE kubernetes_feature_enabled gauge\nkubernetes_feature_enabled{name=\"SlowMode\",stage=\"\"} 1\nkubernetes_feature_enabled{name=\"WidgetColor\",stage=\"BETA\"} 1\n",
+            ),
+            // The release of the server: the emulated one is the view's, and the minimum is that too.
+            (
+                "30 releases 33",
+                r#"{"emulation":"1.30","minCompatibility":"1.30","release":"1.33"}"#,
+            ),
+        ],
+    )
+}
+
+#[test]
+fn look_ups_of_a_view(rt: HostRuntime) -> Result<(), Fail> {
+    answers(
+        &rt,
+        rt.alloc(),
+        &[
+            ("33 release", "33"),
+            ("33 served", "1"),
+            ("33 find v1beta1", "none"),
+            ("33 table v1beta1", "found"),
+            ("33 live gadgets", "yes"),
+            ("33 gate SlowMode", "yes"),
+            ("30 find v1beta1", "found"),
+            ("30 live gadgets", "no"),
+            ("30 best", "v1"),
+            ("30 warning v1beta1", "30 33 v1"),
+            ("30 warning v1", "none"),
+        ],
+    )
 }
