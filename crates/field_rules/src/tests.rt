@@ -188,17 +188,17 @@ impl Entries {
     }
 }
 
-fn entries_in(alloc: Global, text: &str) -> Result<Entries, Fail> {
+fn broken_by(alloc: Global, text: &str) -> Result<Option<Broken>, Fail> {
     let mut entries = Entries::new();
     for entry in text.split(", ") {
         entries.take(alloc, entry)?;
     }
-    Ok(entries)
+    entries.first_broken(alloc)
 }
 
 /// The number of the rule, the array and the number of the entry that the history breaks first, or `lawful`.
 fn answer(alloc: Global, text: &str) -> Result<String, Fail> {
-    match entries_in(alloc, text)?.first_broken(alloc)? {
+    match broken_by(alloc, text)? {
         Some(broken) => {
             let array = broken.array.name();
             Ok(format!(in alloc; "{} {array} {}", broken.rule, broken.index)?)
@@ -331,26 +331,52 @@ fn paths_of_versions(rt: HostRuntime) -> Result<(), Fail> {
 
 #[test]
 fn forms_and_defaults(rt: HostRuntime) -> Result<(), Fail> {
-    let alloc = rt.alloc();
-    for (ty, shown, wanted) in [
-        ("Bool", "Not true", "lawful"),
-        ("Int", "Decimal -9223372036854775808", "lawful"),
-        ("Int", "Same 9223372036854775807", "lawful"),
-        ("Int", "Not", "16 spell 1"),
-        ("Text", "Same 1", "16 spell 1"),
-        ("TextList", "Same []", "16 spell 1"),
-        ("TextList", "Same", "lawful"),
-    ] {
-        let found = shown_as(alloc, ty, shown)?;
-        assert_eq!(rt; found.as_str(), wanted, "{ty} {shown}");
-    }
-    Ok(())
+    answers(
+        &rt,
+        rt.alloc(),
+        &[
+            (
+                "new a v1 28, has a x 28 Bool, spell a v1 x 28 x Not true",
+                "lawful",
+            ),
+            (
+                "new a v1 28, has a x 28 Int, spell a v1 x 28 x Decimal -9223372036854775808",
+                "lawful",
+            ),
+            (
+                "new a v1 28, has a x 28 Int, spell a v1 x 28 x Same 9223372036854775807",
+                "lawful",
+            ),
+            (
+                "new a v1 28, has a x 28 Int, spell a v1 x 28 x Not",
+                "16 spell 1",
+            ),
+            (
+                "new a v1 28, has a x 28 Text, spell a v1 x 28 x Same 1",
+                "16 spell 1",
+            ),
+            (
+                "new a v1 28, has a x 28 TextList, spell a v1 x 28 x Same []",
+                "16 spell 1",
+            ),
+            (
+                "new a v1 28, has a x 28 TextList, spell a v1 x 28 x Same",
+                "lawful",
+            ),
+        ],
+    )
 }
 
-/// The answer on one field of this type and its one spelling, with these words of its form and default.
-fn shown_as(alloc: Global, ty: &str, shown: &str) -> Result<String, Fail> {
-    let text = format!(in alloc; "new a v1 28, has a x 28 {ty}, spell a v1 x 28 x {shown}")?;
-    answer(alloc, text.as_str())
+// A history with a default of the part so many times.
+fn repeated(alloc: Global, part: &str, times: u16) -> Result<String, Fail> {
+    let mut text = String::from_str(
+        alloc,
+        "new a v1 28, has a x 28 Text, spell a v1 x 28 x Same ",
+    )?;
+    for _ in 0..times {
+        text.push_str(part)?;
+    }
+    Ok(text)
 }
 
 #[test]
@@ -362,13 +388,15 @@ fn lengths_of_defaults(rt: HostRuntime) -> Result<(), Fail> {
         ("é", 512, "lawful"),
         ("é", 513, "16 spell 1"),
     ] {
-        let mut shown = String::from_str(alloc, "Same ")?;
-        for _ in 0..times {
-            shown.push_str(part)?;
-        }
-        let found = shown_as(alloc, "Text", shown.as_str())?;
-        assert_eq!(rt; found.as_str(), wanted, "{times}");
+        let text = repeated(alloc, part, times)?;
+        answers(&rt, alloc, &[(text.as_str(), wanted)])?;
     }
+    Ok(())
+}
+
+fn more(alloc: Global, text: &mut String, number: u16) -> Result<(), Fail> {
+    let more = format!(in alloc; ", has a f{number} 28 Text, spell a v1 f{number} 28 f{number}")?;
+    text.push_str(more.as_str())?;
     Ok(())
 }
 
@@ -377,12 +405,9 @@ fn number_of_fields(rt: HostRuntime) -> Result<(), Fail> {
     let alloc = rt.alloc();
     let mut text = String::from_str(alloc, "new a v1 28")?;
     for number in 1..66 {
-        let more = format!(in alloc;
-            ", has a f{number} 28 Text, spell a v1 f{number} 28 f{number}"
-        )?;
-        text.push_str(more.as_str())?;
+        more(alloc, &mut text, number)?;
         let wanted = if number < 65 { "lawful" } else { "11 field 65" };
-        assert_eq!(rt; answer(alloc, text.as_str())?.as_str(), wanted, "{number}");
+        answers(&rt, alloc, &[(text.as_str(), wanted)])?;
     }
     Ok(())
 }
