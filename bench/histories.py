@@ -1,12 +1,15 @@
 #!/usr/bin/env python3
 """Writes a release history of a kind and a size to standard output: `histories.py KIND SIZE`.
 
-SIZE is in bytes, or with a K or an M behind it in KiB or MiB. The document is as long as whole entries let it be.
+SIZE is in bytes, or with a K or an M behind it in KiB or MiB. The document is as long as whole entries let it be, or where
+fields come with their spellings whole units of these.
 """
 
 import sys
 
 FIRST, LAST = "1.1", "1.20"
+ARRAYS = ["gate", "api", "field", "spell"]
+FIELDS_OF_A_RESOURCE = 64
 
 
 def gate(name, since, change):
@@ -99,58 +102,160 @@ def group_entries():
         index += 1
 
 
+def replaced(word):
+    """A version that is deprecated in favour of v1, removed and forgotten."""
+    yield introduced("demo.example", word, "widgets", 1)
+    yield deprecated("demo.example", word, "widgets", 2, 5, "v1")
+    yield removed("demo.example", word, "widgets", 5)
+    yield forgotten("demo.example", word, "widgets", 8)
+
+
 def replaced_entries():
-    """Versions that are deprecated in favour of v1, removed and forgotten."""
     for word in prerelease_words():
-        yield introduced("demo.example", word, "widgets", 1)
-        yield deprecated("demo.example", word, "widgets", 2, 5, "v1")
-        yield removed("demo.example", word, "widgets", 5)
-        yield forgotten("demo.example", word, "widgets", 8)
+        yield from replaced(word)
 
 
-def one_replacement_parts():
+def one_replacement():
     """v2 stands first; behind the others v1 is deprecated in favour of it, removed, and forgotten after all of them."""
-    before = introduced("demo.example", "v1", "widgets", 1) + introduced("demo.example", "v2", "widgets", 1)
-    after = (
-        deprecated("demo.example", "v1", "widgets", 6, 9, "v2")
-        + removed("demo.example", "v1", "widgets", 9)
-        + forgotten("demo.example", "v1", "widgets", 12)
-    )
-    return before, replaced_entries(), after
+    before = [
+        introduced("demo.example", "v1", "widgets", 1),
+        introduced("demo.example", "v2", "widgets", 1),
+    ]
+    after = [
+        deprecated("demo.example", "v1", "widgets", 6, 9, "v2"),
+        removed("demo.example", "v1", "widgets", 9),
+        forgotten("demo.example", "v1", "widgets", 12),
+    ]
+    return of_api(before), single("api", replaced_entries()), of_api(after)
 
 
-def bad_last_parts():
+def bad_last():
     """The last member of the last entry isn't a boolean."""
-    return "", lawful_entries(), introduced("last.example", "v1", "widgets", 1, enabled='"no"')
+    return [], single("api", lawful_entries()), of_api([introduced("last.example", "v1", "widgets", 1, enabled='"no"')])
 
 
-# For each kind the array, what stands first, the entries of which as many are taken as fit, and what stands last.
+def field(group, resource, name, since):
+    return f' {{group="{group}", resource="{resource}", id="{name}", since="1.{since}", type="Text"}},\n'
+
+
+def spelling(group, version, resource, name, since, path=None):
+    """A spelling deep in one object, so that paths differ at their ends alone, or with the given value as its path."""
+    here = f'group="{group}", resource="{resource}", version="{version}"'
+    path = path or f'"a.b.c.d.e.f.g.{name}"'
+    return f' {{{here}, field="{name}", since="1.{since}", path={path}}},\n'
+
+
+def field_with_spellings(group, resource, name, versions, since=1):
+    yield "field", field(group, resource, name, since)
+    for version in versions:
+        yield "spell", spelling(group, version, resource, name, since)
+
+
+def field_units():
+    """Resources of four versions and 64 fields each."""
+    versions = ["v1alpha1", "v1beta1", "v1beta2", "v1"]
+    index = 0
+    while True:
+        group, resource = f"team{index // 10}.example", f"item{index}"
+        unit = of_api(introduced(group, version, resource, 1) for version in versions)
+        for number in range(FIELDS_OF_A_RESOURCE):
+            unit.extend(field_with_spellings(group, resource, f"f{number}", versions))
+            yield unit
+            unit = []
+        index += 1
+
+
+def bad_spelling():
+    """The path of the last spelling isn't a text."""
+    return [], field_units(), [("spell", spelling("last.example", "v1", "widgets", "size", 1, path="1"))]
+
+
+def one_field_units():
+    """Resources of one version and one field each."""
+    index = 0
+    while True:
+        group, resource = f"team{index // 10}.example", f"item{index}"
+        unit = of_api([introduced(group, "v1", resource, 1)])
+        unit.extend(field_with_spellings(group, resource, "size", ["v1"]))
+        yield unit
+        index += 1
+
+
+def spelled_version_units():
+    """Versions of one resource, which spell its two fields."""
+    names = ["size", "color"]
+    unit = [("field", field("demo.example", "widgets", name, 1)) for name in names]
+    for word in prerelease_words():
+        unit.append(("api", introduced("demo.example", word, "widgets", 1)))
+        unit.extend(("spell", spelling("demo.example", word, "widgets", name, 1)) for name in names)
+        yield unit
+        unit = []
+
+
+def forgotten_versions():
+    """One resource whose 64 fields come when all its versions but v1 are forgotten."""
+    before = of_api([introduced("demo.example", "v1", "widgets", 1)])
+    for number in range(FIELDS_OF_A_RESOURCE):
+        before.extend(field_with_spellings("demo.example", "widgets", f"f{number}", ["v1"], since=8))
+    return before, (of_api(replaced(word)) for word in prerelease_words()), []
+
+
+def of_api(entries):
+    return [("api", entry) for entry in entries]
+
+
+def single(array, entries):
+    """Units of one entry each."""
+    return ([(array, entry)] for entry in entries)
+
+
+# For each kind what stands first, the units of which as many are taken as fit, and what stands last. A unit is a list of
+# arrays with an entry each.
 KINDS = {
-    "lawful": ("api", lambda: ("", lawful_entries(), "")),
-    "gates": ("gate", lambda: ("", gate_entries(), "")),
-    "one_gate": ("gate", lambda: ("", one_gate_entries(), "")),
-    "versions": ("api", lambda: ("", version_entries(), "")),
-    "resources": ("api", lambda: ("", resource_entries(), "")),
-    "groups": ("api", lambda: ("", group_entries(), "")),
-    "one_replacement": ("api", one_replacement_parts),
-    "bad_last": ("api", bad_last_parts),
+    "lawful": lambda: ([], single("api", lawful_entries()), []),
+    "gates": lambda: ([], single("gate", gate_entries()), []),
+    "one_gate": lambda: ([], single("gate", one_gate_entries()), []),
+    "versions": lambda: ([], single("api", version_entries()), []),
+    "resources": lambda: ([], single("api", resource_entries()), []),
+    "groups": lambda: ([], single("api", group_entries()), []),
+    "one_replacement": one_replacement,
+    "bad_last": bad_last,
+    "fields": lambda: ([], field_units(), []),
+    "bad_spelling": bad_spelling,
+    "one_field": lambda: ([], one_field_units(), []),
+    "spelled_versions": lambda: ([], spelled_version_units(), []),
+    "forgotten_versions": forgotten_versions,
 }
+
+
+def framed(array, entries):
+    return f"{array} = [\n{entries}]\n"
+
+
+def document(kind, unit):
+    """The document of these entries, each behind those of its array."""
+    last = "1.999" if kind == "one_gate" else LAST
+    text = f'first = "{FIRST}"\nlast = "{last}"\n'
+    for name in ARRAYS:
+        entries = "".join(entry for array, entry in unit if array == name)
+        text += framed(name, entries) if entries else ""
+    return text
 
 
 def history(kind, size):
     """The document, of at most this many bytes."""
-    array, parts = KINDS[kind]
-    before, entries, after = parts()
-    last = "1.999" if kind == "one_gate" else LAST
-    head = f'first = "{FIRST}"\nlast = "{last}"\n{array} = [\n' + before
-    tail = after + "]\n"
-    taken, length = [], len(head) + len(tail)
-    for entry in entries:
-        if length + len(entry) > size:
+    before, units, after = KINDS[kind]()
+    length = len(document(kind, before + after))
+    used = {array for array, _ in before + after}
+    taken = []
+    for unit in units:
+        new = {array for array, _ in unit} - used
+        length += sum(len(entry) for _, entry in unit) + sum(len(framed(array, "")) for array in new)
+        if length > size:
             break
-        taken.append(entry)
-        length += len(entry)
-    return head + "".join(taken) + tail
+        used |= new
+        taken.extend(unit)
+    return document(kind, before + taken + after)
 
 
 def bytes_of(text):
