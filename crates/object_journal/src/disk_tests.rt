@@ -2,7 +2,7 @@ ghost use Rattle.std.specs.Prelude.{◌≡◌, ℕ, [], IfOk, IsTrue};
 ghost use Rattle.object_journal.specs.Journal.{MayFollow, IsLawfulChange};
 
 use super::*;
-use crate::tests::{BODY, has_short_texts, put};
+use crate::tests::{BODY, has_lawful_texts, put};
 use basis::Memory;
 use disk::{FailList, File, MemDisk};
 use minor_version::Blob;
@@ -121,93 +121,98 @@ fn is_first(entry: &Entry) -> bool
     }
 }
 
-fn first(rt: &impl Abort, alloc: Global) -> Result<Framed, Fail>
+fn first(alloc: Global) -> Result<Framed, Fail>
     ensures { IfOk result (λ f. (base : ℕ) → MayFollow base [] f) }
 {
     let entry = put(alloc, BODY.as_bytes())?;
-    assert!(rt; has_short_texts(&entry.key));
-    assert!(rt; is_first(&entry));
-    let framed = frame(alloc, &entry).ok().ok_or("no frame")?;
-    Ok(framed)
+    if !has_lawful_texts(&entry.key) || !is_first(&entry) {
+        return Err(Fail::from("not lawful"));
+    }
+    match frame(alloc, &entry) {
+        Ok(framed) => Ok(framed),
+        Err(_) => Err(Fail::from("no frame")),
+    }
 }
 
-// Opens a journal with no entries, and appends one. Tells whether that was done.
-fn append_first(
-    rt: &impl Abort,
-    alloc: Global,
-    disk: &mut MemDisk,
-) -> Result<(Journal, bool), Fail> {
-    let framed = first(rt, alloc)?;
-    let (mut journal, entries) = open_journal(alloc, disk).ok().ok_or("not opened")?;
-    assert!(rt; entries.items().is_empty());
-    let done = journal.append(&framed, disk).is_ok();
-    Ok((journal, done))
+// Opens a journal with no entries, and appends one.
+fn append_first(alloc: Global, disk: &mut MemDisk) -> Result<Journal, Fail> {
+    let framed = first(alloc)?;
+    let Ok((mut journal, entries)) = open_journal(alloc, disk) else {
+        return Err(Fail::from("not opened"));
+    };
+    if !entries.items().is_empty() {
+        return Err(Fail::from("not empty"));
+    }
+    let _ = journal.append(&framed, disk);
+    Ok(journal)
 }
 
 #[test]
 fn an_append(rt: HostRuntime) -> Result<(), Fail> {
     let mut disk = disk_with(rt.alloc(), b"", &[])?;
-    let (journal, done) = append_first(&rt, rt.alloc(), &mut disk)?;
-    assert!(rt; done && !journal.has_ended());
+    let journal = append_first(rt.alloc(), &mut disk)?;
+    assert!(rt; !journal.has_ended());
     assert_eq!(rt; journal.revision(), 1);
     assert_eq!(rt; disk.held_bytes(File::Left), file_of_a_put());
     Ok(())
 }
 
-// What an opening after a stop at the moment gives.
-fn stopped(
-    rt: &impl Abort,
-    alloc: Global,
-    disk: &MemDisk,
-    t: u64,
-    pick: u64,
-) -> Result<Result<usize, OpenFault>, Memory> {
-    assert!(rt; t <= disk.moment());
-    let mut left = disk.after_stop(t, pick)?;
-    Ok(count(alloc, &mut left))
+// How many entries an opening gives after a stop at the moment.
+fn count_after(alloc: Global, disk: &MemDisk, t: u64, pick: u64) -> Option<usize> {
+    if disk.moment() < t {
+        return None;
+    }
+    let Ok(mut left) = disk.after_stop(t, pick) else {
+        return None;
+    };
+    count(alloc, &mut left).ok()
+}
+
+fn has_counts(alloc: Global, disk: &MemDisk, pick: u64, counts: &[usize]) -> bool {
+    for (t, want) in counts.iter().enumerate() {
+        if count_after(alloc, disk, t as u64, pick) != Some(*want) {
+            return false;
+        }
+    }
+    true
+}
+
+// A disk on which the calls with these numbers fail, after an opening and an append.
+fn appended(alloc: Global, fails: &[u64]) -> Result<MemDisk, Fail> {
+    let mut disk = disk_with(alloc, b"", fails)?;
+    let journal = append_first(alloc, &mut disk)?;
+    if journal.has_ended() == fails.is_empty() {
+        return Err(Fail::from("not ended as it should"));
+    }
+    Ok(disk)
 }
 
 // The opening takes five moments, and the append four: its record, a sync, its gate, a sync. What a stop between the last
 // two leaves may have the gate open.
-fn expect_stops(rt: &impl Abort, alloc: Global, pick: u64, torn: usize) -> Result<(), Fail> {
-    let mut disk = disk_with(alloc, b"", &[])?;
-    let (_, done) = append_first(rt, alloc, &mut disk)?;
-    assert!(rt; done);
-    assert_eq!(rt; disk.moment(), 9);
-    for t in 0..8 {
-        assert_eq!(rt; stopped(rt, alloc, &disk, t, pick)?, Ok(0));
-    }
-    assert_eq!(rt; stopped(rt, alloc, &disk, 8, pick)?, Ok(torn));
-    assert_eq!(rt; stopped(rt, alloc, &disk, 9, pick)?, Ok(1));
-    Ok(())
-}
-
 #[test]
 fn stops(rt: HostRuntime) -> Result<(), Fail> {
-    expect_stops(&rt, rt.alloc(), 0, 0)?;
-    expect_stops(&rt, rt.alloc(), 1, 1)?;
-    expect_stops(&rt, rt.alloc(), 79, 1)?;
-    expect_stops(&rt, rt.alloc(), 255, 0)
-}
-
-// The append fails at this call. What a stop then leaves may have the record only where its gate was written.
-fn expect_failure(rt: &impl Abort, alloc: Global, call: u64, entries: usize) -> Result<(), Fail> {
-    let mut disk = disk_with(alloc, b"", &[call])?;
-    let (journal, done) = append_first(rt, alloc, &mut disk)?;
-    assert!(rt; !done && journal.has_ended());
-    assert_eq!(rt; journal.revision(), 0);
-    let now = disk.moment();
-    assert_eq!(rt; stopped(rt, alloc, &disk, now, 79)?, Ok(entries));
-    assert_eq!(rt; stopped(rt, alloc, &disk, now, 255)?, Ok(0));
+    let alloc = rt.alloc();
+    let disk = appended(alloc, &[])?;
+    assert_eq!(rt; disk.moment(), 9);
+    assert!(rt; has_counts(alloc, &disk, 0, &[0, 0, 0, 0, 0, 0, 0, 0, 0, 1]));
+    assert!(rt; has_counts(alloc, &disk, 1, &[0, 0, 0, 0, 0, 0, 0, 0, 1, 1]));
+    assert!(rt; has_counts(alloc, &disk, 79, &[0, 0, 0, 0, 0, 0, 0, 0, 1, 1]));
+    assert!(rt; has_counts(alloc, &disk, 255, &[0, 0, 0, 0, 0, 0, 0, 0, 0, 1]));
     Ok(())
 }
 
+// Calls 8 to 11 are those of the append. What a stop leaves after a failure may have the gate open only where it was
+// written.
 #[test]
 fn failures_of_an_append(rt: HostRuntime) -> Result<(), Fail> {
-    expect_failure(&rt, rt.alloc(), 8, 0)?;
-    expect_failure(&rt, rt.alloc(), 9, 0)?;
-    expect_failure(&rt, rt.alloc(), 10, 1)?;
-    expect_failure(&rt, rt.alloc(), 11, 1)
+    let alloc = rt.alloc();
+    let record = appended(alloc, &[8])?;
+    assert!(rt; has_counts(alloc, &record, 79, &[0, 0, 0, 0, 0, 0, 0]));
+    let synced = appended(alloc, &[9])?;
+    assert!(rt; has_counts(alloc, &synced, 79, &[0, 0, 0, 0, 0, 0, 0, 0]));
+    let gate = appended(alloc, &[10])?;
+    assert!(rt; has_counts(alloc, &gate, 79, &[0, 0, 0, 0, 0, 0, 0, 0, 1]));
+    Ok(())
 }
 
 #[test]

@@ -1,5 +1,6 @@
-ghost use Rattle.std.specs.Prelude.{IsTrue};
-ghost use Rattle.object_journal.specs.Payload.{HasShortTexts};
+ghost use Rattle.std.specs.Prelude.{◌≤◌, length, IsTrue};
+ghost use Rattle.std.specs.Str.{IsUtf8};
+ghost use Rattle.object_journal.specs.Journal.{HasLawfulTexts};
 
 use super::*;
 use basis::Memory;
@@ -26,19 +27,25 @@ pub(super) fn put(alloc: Global, body: &[u8]) -> Result<Entry, Memory> {
     })
 }
 
-pub(super) fn has_short_texts(key: &Key) -> bool
-    ensures { IsTrue result → HasShortTexts key.now }
+fn is_lawful_text(text: &Text) -> bool
+    ensures { IsTrue result → (length text.now ≤ 65535) × IsUtf8 text.now }
 {
-    key.group.bytes().len() <= 65535
-        && key.resource.bytes().len() <= 65535
-        && key.namespace.bytes().len() <= 65535
-        && key.name.bytes().len() <= 65535
+    text.bytes().len() <= 65535 && str::from_utf8(text.bytes()).is_ok()
+}
+
+pub(super) fn has_lawful_texts(key: &Key) -> bool
+    ensures { IsTrue result → HasLawfulTexts key.now }
+{
+    is_lawful_text(&key.group)
+        && is_lawful_text(&key.resource)
+        && is_lawful_text(&key.namespace)
+        && is_lawful_text(&key.name)
 }
 
 #[test]
 fn record_of_a_put(rt: HostRuntime) -> Result<(), Fail> {
     let entry = put(rt.alloc(), BODY.as_bytes())?;
-    assert!(rt; has_short_texts(&entry.key));
+    assert!(rt; has_lawful_texts(&entry.key));
     let framed = frame(rt.alloc(), &entry).ok().ok_or("no frame")?;
     assert_eq!(rt; framed.bytes().len(), 152);
     assert_eq!(rt; framed.revision(), 1);
@@ -51,7 +58,7 @@ fn record_that_is_too_long(rt: HostRuntime) -> Result<(), Fail> {
     let mut body = Vec::new(rt.alloc());
     body.resize(1_048_576, b' ')?;
     let entry = put(rt.alloc(), body.as_slice())?;
-    assert!(rt; has_short_texts(&entry.key));
+    assert!(rt; has_lawful_texts(&entry.key));
     assert_eq!(rt; frame(rt.alloc(), &entry).err(), Some(FrameFault::TooLong));
     Ok(())
 }
