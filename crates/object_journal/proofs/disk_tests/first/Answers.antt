@@ -8,7 +8,7 @@ use Rattle.object_journal.specs.declared.framed.FrameFault.{FrameFault}
 use Rattle.object_journal.specs.declared.framed.FrameFault.TheVariants.{TooLong}
 use Rattle.object_journal.specs.Payload.{payload_of, longest_payload}
 use Rattle.object_journal.specs.Journal.{IsHeld, FewHeld, IsLawfulChange, HasLawfulTexts, MayFollow}
-use Rattle.object_journal.proofs.Appends.{not_empty, last_or_earlier}
+use Rattle.object_journal.specs.EntryLaws.{not_empty, last_or_earlier}
 use Rattle.object_journal.proofs.disk_tests.first.Goals as goal
 
 its_key : (x : Entry) (k : Key) → IsHeld (x ∷ []) k → k ≡ x.key
