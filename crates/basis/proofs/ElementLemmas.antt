@@ -1,9 +1,11 @@
 -- Elements of lists, and of lists of keys in order. `Any` and `Contains` speak of places; an induction goes over the list, so the lemmas
 -- pass through words that are defined by recursion.
-use Rattle.std.proofs.Common.{◌≡◌, ◌↔◌, ◌⊎◌, inl, inr, ℕ, zero, suc, ◌<◌, List, [], ◌∷◌, ◌++◌, length, get_or, Ordering, Less, Equal, Greater, refl, subst, arith, Contains}
-use Rattle.std.specs.List.{Any, AllByRecursion}
+use Rattle.std.proofs.Common.{◌≡◌, ◌↔◌, ◌⊎◌, inl, inr, ℕ, zero, suc, ◌<◌, List, [], ◌∷◌, ◌++◌, length, get_or, Ordering, Less, Equal, Greater, refl, sym, ◌∙◌, subst, arith, Contains}
+use Rattle.std.specs.List.{Any, AllPairs, AllByRecursion}
 use Rattle.std.specs.Ordering.{match_ordering}
 use Rattle.std.specs.BTreeSet.{insert_key}
+use Rattle.std.proofs.lemmas.Bool.{cases_order}
+use Rattle.std.proofs.lemmas.List.Elements.{Contains-push, Contains-push_cases, Contains-append_left, at_from_Contains}
 use Rattle.std.proofs.lemmas.Map.Lookups.{CmpEqualImpliesEq}
 
 abbrev SomeIn : {X : Type 0} → (X → Type 0) → List X → Type 0
@@ -15,14 +17,6 @@ some_at P [] k x below is p = absurd (omega arith)
 some_at P (y ∷ ys) zero x below is p = inl (subst P (let e : x ≡ y = cc in e) p)
 some_at P (y ∷ ys) (suc k) x below is p = inr (some_at P ys k x (omega arith) is p)
 
-some_from_any : {X : Type 0} (P : X → Type 0) (xs : List X) → Any P xs → SomeIn P xs
-some_from_any P xs h = some_at P xs h.0 h.1 h.2 h.3 h.4
-
-any_from_some : {X : Type 0} (P : X → Type 0) (xs : List X) → SomeIn P xs → Any P xs
-any_from_some P [] h = absurd h
-any_from_some P (x ∷ xs) (inl p) = (0, x, omega arith, refl, p)
-any_from_some P (x ∷ xs) (inr h) = let r = any_from_some P xs h in (suc r.0, r.1, (let below = r.2 in omega arith), r.3, r.4)
-
 has_from_contains : {X : Type 0} (xs : List X) (x : X) → Contains xs x → SomeIn (λ y. y ≡ x) xs
 has_from_contains xs x h = some_at (λ y. y ≡ x) xs h.0 x h.1 h.2 refl
 
@@ -31,25 +25,25 @@ contains_from_has [] x h = absurd h
 contains_from_has (y ∷ xs) x (inl e) = (0, omega arith, e)
 contains_from_has (y ∷ xs) x (inr h) = let r = contains_from_has xs x h in (suc r.0, (let below = r.1 in omega arith), r.2)
 
-some_more : {X : Type 0} (P : X → Type 0) (xs : List X) (y : X) → SomeIn P xs ⊎ P y → SomeIn P (xs ++ y ∷ [])
-some_more P [] y (inl h) = absurd h
-some_more P [] y (inr h) = inl h
-some_more P (x ∷ xs) y (inl (inl h)) = inl h
-some_more P (x ∷ xs) y (inl (inr h)) = inr (some_more P xs y (inl h))
-some_more P (x ∷ xs) y (inr h) = inr (some_more P xs y (inr h))
+pub Any-from : {X : Type 0} (P : X → Type 0) (xs : List X) (x : X) → Contains xs x → P x → Any P xs
+Any-from P xs x h p = (h.0, x, h.1, h.2, p)
 
-some_cases : {X : Type 0} (P : X → Type 0) (xs : List X) (y : X) → SomeIn P (xs ++ y ∷ []) → SomeIn P xs ⊎ P y
-some_cases P [] y (inl h) = inr h
-some_cases P [] y (inr h) = absurd h
-some_cases P (x ∷ xs) y (inl h) = inl (inl h)
-some_cases P (x ∷ xs) y (inr h) = elim (some_cases P xs y h) [ inl k ↦ inl (inr k) | inr k ↦ inr k ]
+pub Any-push_left : {X : Type 0} (P : X → Type 0) (xs : List X) (y : X) → Any P xs → Any P (xs ++ y ∷ [])
+Any-push_left P xs y h = Any-from P (xs ++ y ∷ []) h.1 (Contains-append_left xs (y ∷ []) h.1 (h.0, h.2, h.3)) h.4
+
+pub Any-push : {X : Type 0} (P : X → Type 0) (xs : List X) (y : X) → P y → Any P (xs ++ y ∷ [])
+Any-push P xs y p = Any-from P (xs ++ y ∷ []) y (Contains-push xs y) p
+
+pub Any-push_cases : {X : Type 0} (P : X → Type 0) (xs : List X) (y : X) → Any P (xs ++ y ∷ []) → Any P xs ⊎ P y
+Any-push_cases P xs y h =
+    elim (Contains-push_cases xs y h.1 (h.0, h.2, h.3)) [
+      | inl before ↦ inl (Any-from P xs h.1 before h.4)
+      | inr same ↦ inr (rw same h.4)
+    ]
 
 -- an element of the list, or the one that is appended
 pub Any-push_iff : {X : Type 0} (P : X → Type 0) (xs : List X) (y : X) → Any P (xs ++ y ∷ []) ↔ (Any P xs ⊎ P y)
-Any-push_iff P xs y = (
-  λ h. elim (some_cases P xs y (some_from_any P (xs ++ y ∷ []) h)) [ inl k ↦ inl (any_from_some P xs k) | inr p ↦ inr p ],
-  λ h. any_from_some P (xs ++ y ∷ []) (some_more P xs y (elim h [ inl k ↦ inl (some_from_any P xs k) | inr p ↦ inr p ])),
-)
+Any-push_iff P xs y = (Any-push_cases P xs y, λ h. elim h [ inl before ↦ Any-push_left P xs y before | inr last ↦ Any-push P xs y last ])
 
 pub Any-weaker : {X : Type 0} (P Q : X → Type 0) (xs : List X) → ((x : X) → P x → Q x) → Any P xs → Any Q xs
 Any-weaker P Q xs f h = (h.0, h.1, h.2, h.3, f h.1 h.4)
@@ -116,3 +110,14 @@ keys_of-same P xs ks x w h p = (
   λ c. (Any-push_iff (λ y. P y w) xs x).1 (inl (h.0 c)),
   λ a. elim ((Any-push_iff (λ y. P y w) xs x).0 a) [ inl b ↦ h.1 b | inr b ↦ absurd (p b) ],
 )
+
+-- two elements are one, or one of them stands before the other
+pub AllPairs-cases : {X : Type 0} (R : X → X → Type 0) (xs : List X) (x y : X) → AllPairs R xs → Contains xs x → Contains xs y → (x ≡ y) ⊎ (R x y ⊎ R y x)
+AllPairs-cases R xs x y pairs a b =
+    let i = at_from_Contains xs x a in
+    let j = at_from_Contains xs y b in
+    elim (cases_order i.0 j.0) [
+      | inl same ↦ inl (sym (i.2 x) ∙ rw same (j.2 x))
+      | inr (inl before) ↦ inr (inl (rw (i.2 x, j.2 x) at (pairs i.0 j.0 x before j.1)))
+      | inr (inr after) ↦ inr (inr (rw (j.2 x, i.2 x) at (pairs j.0 i.0 x after i.1)))
+    ]

@@ -1,2 +1,4 @@
 pub mod ElementLemmas
+pub mod FilterLemmas
 pub mod NameLemmas
+pub mod OrderLemmas

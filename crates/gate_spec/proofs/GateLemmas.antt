@@ -13,7 +13,8 @@ use Rattle.gate_spec.specs.declared.entry.GateChange.TheVariants.{Spec, Gone}
 use Rattle.gate_spec.specs.declared.entry.Stage.{Stage}
 use Rattle.gate_spec.specs.declared.entry.SpecAt.{SpecAt}
 use Rattle.gate_spec.specs.declared.entry.SpecAt.TheVariants.{Found, PreAlpha, Removed, Never}
-use Rattle.gate_spec.proofs.FilterLemmas.{Any-from, Contains-filter, filter-push, filter-push_not, Any-push_left, Any-push, Any-push_cases, Any-from_filter, AllPairs-cases}
+use Rattle.basis.proofs.ElementLemmas.{Any-from, Any-push_left, Any-push, Any-push_cases, AllPairs-cases}
+use Rattle.basis.proofs.FilterLemmas.{Contains-filter, filter-push, filter-push_not, Any-from_filter}
 
 pub cutoff-push : (xs : List GateEntry) (x : GateEntry) (e : ℕ) → x.since ≤ e → cutoff (xs ++ x ∷ []) e ≡ cutoff xs e ++ x ∷ []
 cutoff-push xs x e h = filter-push _ xs x (le-leb x.since e h)

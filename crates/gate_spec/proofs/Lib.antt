@@ -1,2 +1,1 @@
-pub mod FilterLemmas
 pub mod GateLemmas

@@ -7,6 +7,7 @@ use Rattle.std.specs.Str.{bytes_eq}
 use Rattle.std.proofs.lemmas.Bool.{cases_Bool, cond-true, cond-false, and_parts, and_from, leb-true, le-leb, false≢true, not-true, not_from_false, false_from_ne_true, both_ways}
 use Rattle.std.proofs.lemmas.List.Folds.{Any-from_list_any, list_any-from_Any}
 use Rattle.std.proofs.lemmas.Slice.Eq.{bytes_eq-Decides}
+use Rattle.basis.proofs.FilterLemmas.{filter_twice}
 use Rattle.lifecycle.specs.Entry.{GroupVersionResource, subject, IsKnownOf, IsIntroduction, IsRemoval, IsIntroduced, IsRemoved, IsLive}
 use Rattle.lifecycle.specs.Tables.{cutoff, is_of, is_introduction, is_deprecation, is_removal, first_change, has_change, live, deprecation_of, warning}
 use Rattle.lifecycle.specs.declared.entry.ApiEntry.{ApiEntry}
@@ -125,17 +126,6 @@ live_dated entries name e = (
       and_from (has_change is_introduction (cutoff entries e) name) (not (has_change is_removal (cutoff entries e) name)) ((introduced_dated entries name e).1 h.0)
       (not_from_false _ (false_from_ne_true _ (λ r. h.1 ((removed_dated entries name e).0 r)))),
 )
-
-filter_twice : {X : Type 0} (p : X → Bool) (xs : List X) → filter p (filter p xs) ≡ filter p xs
-filter_twice p [] = refl
-filter_twice p (x ∷ xs) = elim (cases_Bool (p x)) [
-  | inl passes ↦
-      let kept = cond-true (p x) (x ∷ filter p xs) (filter p xs) passes in
-      ap (filter p) kept ∙ cond-true (p x) (x ∷ filter p (filter p xs)) (filter p (filter p xs)) passes ∙ ap (λ ys. x ∷ ys) (filter_twice p xs) ∙ sym kept
-  | inr fails ↦
-      let left = cond-false (p x) (x ∷ filter p xs) (filter p xs) fails in
-      ap (filter p) left ∙ filter_twice p xs ∙ sym left
-]
 
 pub cut_tables : (entries cut : List ApiEntry) (e : ℕ) → cut ≡ cutoff entries e → cutoff entries e ≡ cutoff cut e
 cut_tables entries cut e is = sym (ap (λ xs. cutoff xs e) is ∙ filter_twice _ entries)

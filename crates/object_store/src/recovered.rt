@@ -22,17 +22,17 @@ pub(crate) struct Held {
 }
 
 // Takes one more entry in.
-fn take_in(alloc: Global, held: &mut BTreeMap<Key, Held>, entry: &Entry) -> Result<(), Memory>
-    ensures { OnOk result ((entries : List Entry) → AreLeft held.old entries → AreLeft held.new (entries ++ entry.now ∷ [])) }
+fn take_in(held: &mut BTreeMap<Key, Held>, entry: Entry) -> Result<(), Memory>
+    ensures { OnOk result ((entries : List Entry) → AreLeft held.old entries → AreLeft held.new (entries ++ entry ∷ [])) }
 {
-    match &entry.change {
+    match entry.change {
         Change::Put { created, body } => {
             let put = Held {
                 revision: entry.revision,
-                created: *created,
-                body: Blob::copy(alloc, body.bytes())?,
+                created,
+                body,
             };
-            held.insert(entry.key.duplicate(alloc)?, put)?;
+            held.insert(entry.key, put)?;
         }
         Change::Removal => {
             held.remove(&entry.key);
@@ -59,8 +59,8 @@ pub(crate) fn items_of(alloc: Global, entries: Entries) -> Result<Vec<Item>, Mem
     ensures { IfOk result (λ v. AreRecords entries v.items) }
 {
     let mut held = BTreeMap::new(alloc);
-    for entry in entries.items() {
-        match take_in(alloc, &mut held, entry) {
+    for entry in entries.into_vec(alloc) {
+        match take_in(&mut held, entry) {
             Ok(()) => {}
             Err(memory) => return Err(memory),
         }

@@ -5,7 +5,6 @@ use Rattle.std.proofs.lemmas.Bool.{false≢true, and_parts}
 use Rattle.std.proofs.lemmas.Map.Lookups.{exact_bytes}
 use Rattle.fields.specs.declared.table.FieldRow.{FieldRow}
 use Rattle.gate_flags.specs.Values.{HasValue}
-use Rattle.gate_flags.proofs.SearchLemmas.{one_in_order}
 use Rattle.lifecycle.specs.Entry.{GroupVersionResource}
 use Rattle.lifecycle.specs.Tables.{is_of, is_introduction, first_change, live, warning}
 use Rattle.lifecycle.specs.Version.{word_text}
@@ -16,7 +15,7 @@ use Rattle.release_view.proofs.ListLemmas.{found}
 use Rattle.lifecycle.proofs.WordLemmas.{word_text_injective, exact_words}
 use Rattle.row_index.specs.Source.{RowSource}
 use Rattle.schemas.specs.Rows.{AreRows}
-use Rattle.runtime_config.proofs.OrderLemmas.{then_tied}
+use Rattle.basis.proofs.OrderLemmas.{then_tied, one_by_name}
 use Rattle.release_view.specs.Known.{Tables, name_of, naming, deprecation, IsKnown, by_place}
 use Rattle.release_view.specs.declared.known.KnownVersion.{KnownVersion}
 use Rattle.release_view.specs.declared.known.Planned.{Planned}
@@ -40,7 +39,7 @@ same_bool false true f g = absurd (false≢true (g refl))
 same_bool false false f g = refl
 
 one_table : (source : RowSource) (name : GroupVersionResource) (rows others : List FieldRow) → AreRows (λ gate. HasValue source.gates gate true) source.fields source.spells name rows → AreRows (λ gate. HasValue source.gates gate true) source.fields source.spells name others → rows ≡ others
-one_table source name rows others a b = one_in_order (λ (r : FieldRow). r.id) rows others a.order b.order (λ row. ((λ there. (b.exact row).1 ((a.exact row).0 there)), (λ there. (a.exact row).1 ((b.exact row).0 there))))
+one_table source name rows others a b = one_by_name (λ (r : FieldRow). r.id) rows others a.order b.order (λ row. ((λ there. (b.exact row).1 ((a.exact row).0 there)), (λ there. (a.exact row).1 ((b.exact row).0 there))))
 
 module _ (tables : Tables) (on_names : List GroupVersionResource) where
   pub same_version : (v w : KnownVersion) → IsKnown tables on_names v → IsKnown tables on_names w → name_of v ≡ name_of w → v ≡ w

@@ -2,12 +2,13 @@
 use Rattle.std.proofs.Common.{◌≡◌, inl, inr, ℕ, Bool, List, [], ◌∷◌, refl, sym, ◌∙◌, ap, subst}
 use Rattle.std.specs.Prelude.{nat_le, filter}
 use Rattle.std.proofs.lemmas.Bool.{cases_Bool, cond-true, cond-false}
+use Rattle.basis.proofs.FilterLemmas.{filter_twice}
 use Rattle.gate_flags.specs.Values.{Gates}
 use Rattle.lifecycle.specs.Entry.{GroupVersionResource}
 use Rattle.lifecycle.specs.Tables.{cutoff as apis_by}
 use Rattle.schemas.specs.Cutoff.{cutoff, fields_by, spells_by}
 use Rattle.schemas.specs.Dated.{Dated}
-use Rattle.runtime_config.proofs.OrderLemmas.{one_in_order}
+use Rattle.basis.proofs.OrderLemmas.{one_in_order}
 use Rattle.release_view.specs.Known.{Tables, tables_at, AreKnown, by_place}
 use Rattle.release_view.specs.Laws.{HasOneView}
 use Rattle.release_view.specs.Order.{by_place_total}
@@ -26,17 +27,6 @@ one_view h e gates on_names v w a b =
 
 by_tables : (h cut : Dated) (e : ℕ) (gates : Gates) → tables_at h e gates ≡ tables_at cut e gates → (on_names : List GroupVersionResource) (v : Viewed) → IsViewOf h e gates on_names v → IsViewOf cut e gates on_names v
 by_tables h cut e gates same on_names v a = record { of_minor = a.of_minor; of_gates = a.of_gates; of_versions = subst (λ tables. AreKnown tables on_names v.versions) same a.of_versions }
-
-filter_twice : {X : Type 0} (p : X → Bool) (xs : List X) → filter p (filter p xs) ≡ filter p xs
-filter_twice p [] = refl
-filter_twice p (x ∷ xs) = elim (cases_Bool (p x)) [
-  | inl passes ↦
-      let kept = cond-true (p x) (x ∷ filter p xs) (filter p xs) passes in
-      ap (filter p) kept ∙ cond-true (p x) (x ∷ filter p (filter p xs)) (filter p (filter p xs)) passes ∙ ap (λ ys. x ∷ ys) (filter_twice p xs) ∙ sym kept
-  | inr fails ↦
-      let left = cond-false (p x) (x ∷ filter p xs) (filter p xs) fails in
-      ap (filter p) left ∙ filter_twice p xs ∙ sym left
-]
 
 -- cutting once more changes nothing
 same_tables : (h cut : Dated) (e : ℕ) (gates : Gates) → cut ≡ cutoff h e → tables_at h e gates ≡ tables_at cut e gates

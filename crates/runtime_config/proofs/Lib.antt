@@ -1,4 +1,3 @@
-pub mod OrderLemmas
 pub mod NameLemmas
 pub mod KeyLemmas
 pub mod StandingLemmas

@@ -4,7 +4,7 @@ use Rattle.std.specs.Cmp.{IsTotalOrder}
 use Rattle.std.specs.Cmp.Rules.{comparing}
 use Rattle.std.proofs.lemmas.Map.Lookups.{CmpEqualImpliesEq, exact_bytes}
 use Rattle.runtime_config.specs.Served.{by_name}
-use Rattle.runtime_config.proofs.OrderLemmas.{then_tied}
+use Rattle.basis.proofs.OrderLemmas.{then_tied}
 
 pub by_name_total : IsTotalOrder by_name
 by_name_total = search (comparing, rules)

@@ -1,7 +1,6 @@
 -- The laws of the rows of a version's table.
 use Rattle.std.proofs.Common.{◌≡◌, inl, inr, ℕ, zero, suc, ◌+◌, ◌<◌, ◌≤◌, Bool, true, false, IsTrue, List, [], ◌∷◌, Some, length, map, take, get_or, Less, Equal, Contains, refl, sym, ◌∙◌, ap, subst, arith, cond}
 use Rattle.std.specs.Prelude.{◌&&◌, nat_le, filter, slice_get, Any, IfSome}
-use Rattle.std.specs.BTreeSet.{BTreeSet, contains}
 use Rattle.std.specs.Ordering.{nat_cmp, eq_by_cmp}
 use Rattle.std.specs.Cmp.Lexicographic.{slice_cmp}
 use Rattle.std.specs.Bool.{Decides}
@@ -12,11 +11,12 @@ use Rattle.std.proofs.lemmas.List.{length-map, get_or-map, take_all, ext_get_or}
 use Rattle.std.proofs.lemmas.List.Elements.{All-contains, All-from_recursion}
 use Rattle.std.proofs.lemmas.List.Filters.{length-filter_more}
 use Rattle.std.proofs.lemmas.Map.Keys.{IsDistinct-from_sorted, Less-from_sorted}
-use Rattle.std.proofs.lemmas.Map.Lookups.{btree_set_from_contains, exact_bytes}
+use Rattle.std.proofs.lemmas.Map.Lookups.{exact_bytes}
 use Rattle.std.proofs.lemmas.Map.Made.{length-le_from_is_member, is_member-Decides}
-use Rattle.std.proofs.lemmas.Map.Views.{btree_set_contains_iff, tells_apart}
+use Rattle.std.proofs.lemmas.Map.Views.{tells_apart}
 use Rattle.std.proofs.lemmas.Option.{slice_get_within, slice_get-get_or, get_or_from_slice_get}
 use Rattle.std.proofs.lemmas.Slice.Eq.{bytes_eq-Decides}
+use Rattle.basis.proofs.OrderLemmas.{one_in_order}
 use Rattle.fields.specs.Order.{Rises}
 use Rattle.fields.specs.Table.{IsFieldPath, AreApart, IsFormOf, IsDefaultOf, IsLawfulRow}
 use Rattle.fields.specs.declared.field.Field.{Field}
@@ -24,7 +24,7 @@ use Rattle.fields.specs.declared.field.Spell.{Spell}
 use Rattle.fields.specs.declared.table.FieldRow.{FieldRow}
 use Rattle.fields.specs.declared.value.FieldType.{FieldType}
 use Rattle.fields.specs.declared.value.FieldType.TheVariants.{Bool as BoolType}
-use Rattle.gate_spec.proofs.FilterLemmas.{Contains-filter, Contains-from_filter, passes_from_filter}
+use Rattle.basis.proofs.FilterLemmas.{Contains-filter, Contains-from_filter, passes_from_filter}
 use Rattle.lifecycle.specs.Entry.{GroupVersionResource}
 use Rattle.schemas.specs.Cutoff.{fields_by, spells_by}
 use Rattle.schemas.specs.Dated.{Dated, IsShaped}
@@ -229,28 +229,12 @@ ids_among h lawful name other e (row ∷ more) others group resource is_decodabl
     let some : Any (λ r. r.id ≡ g.field.id) others = each_has_row h lawful other e g.place g.field others is_decodable also g.field_stands (g.spelling.0.group ∙ sym g.spelling.1.group ∙ group) (g.spelling.0.resource ∙ sym g.spelling.1.resource ∙ resource) g.dated in
     subst (Contains (ids others)) (some.4 ∙ sym g.given.id ∙ one.2) (mapped (λ r. r.id) others some.1 (some.0, some.2, some.3))
 
-same_bools : (a b : Bool) → (IsTrue a → IsTrue b) → (IsTrue b → IsTrue a) → a ≡ b
-same_bools true true f g = refl
-same_bools true false f g = absurd (false≢true (f refl))
-same_bools false true f g = absurd (false≢true (g refl))
-same_bools false false f g = refl
-
-one_rising : (xs ys : List (List ℕ)) → Rises xs → Rises ys → ((x : List ℕ) → Contains xs x → Contains ys x) → ((x : List ℕ) → Contains ys x → Contains xs x) → xs ≡ ys
-one_rising xs ys a b f g =
-    let s : BTreeSet (List ℕ) = record { keys = xs } in
-    let t : BTreeSet (List ℕ) = record { keys = ys } in
-    btree_set_from_contains nat_list_cmp_total s t a b
-    (λ q. same_bools (contains (slice_cmp nat_cmp) s q) (contains (slice_cmp nat_cmp) t q)
-    (λ h. (btree_set_contains_iff nat_list_cmp_total exact_bytes t q).1 (f q ((btree_set_contains_iff nat_list_cmp_total exact_bytes s q).0 h)))
-    (λ h. (btree_set_contains_iff nat_list_cmp_total exact_bytes s q).1 (g q ((btree_set_contains_iff nat_list_cmp_total exact_bytes t q).0 h))))
-    exact_bytes
-
 abbrev types : List FieldRow → List FieldType
 types rows = map (λ r. r.ty) rows
 
 pub rows_alike : (h : Dated) → IsAccepted h → RowsAreAlike h
 rows_alike h lawful = λ (name other : GroupVersionResource) (e : ℕ) (rows others : List FieldRow) (group : name.group ≡ other.group) (resource : name.resource ≡ other.resource) (one : IsDecodable h.apis name e) (two : IsDecodable h.apis other e) (spell : SpellFields (fields_by h.fields e) (spells_by h.spells e) name rows) (also : SpellFields (fields_by h.fields e) (spells_by h.spells e) other others).
-    let same_ids : ids rows ≡ ids others = one_rising (ids rows) (ids others) spell.order also.order (ids_among h lawful name other e rows others group resource two spell also) (ids_among h lawful other name e others rows (sym group) (sym resource) one also spell) in
+    let same_ids : ids rows ≡ ids others = one_in_order (slice_cmp nat_cmp) nat_list_cmp_total (ids rows) (ids others) spell.order also.order (λ id. (ids_among h lawful name other e rows others group resource two spell also id, ids_among h lawful other name e others rows (sym group) (sym resource) one also spell id)) in
     let size : length rows ≡ length others = sym (length-map rows (λ r. r.id)) ∙ ap length same_ids ∙ length-map others (λ r. r.id) in
     record {
       ids = same_ids;

@@ -3,7 +3,7 @@ use Rattle.std.proofs.lemmas.Fn.{always_returns_same}
 use Rattle.lifecycle.specs.Entry.{named}
 use Rattle.runtime_config.specs.Served.{by_name}
 use Rattle.runtime_config.proofs.NameLemmas.{by_name_total, exact_names}
-use Rattle.runtime_config.proofs.OrderLemmas.{absent, present}
+use Rattle.basis.proofs.OrderLemmas.{absent, present}
 use Rattle.runtime_config.proofs.enabled.is_among.Goals as goal
 
 pub returns-in-Ok : goal.returns-in-Ok

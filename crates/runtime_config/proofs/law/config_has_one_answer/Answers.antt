@@ -12,7 +12,7 @@ use Rattle.runtime_config.specs.declared.fault.ConfigCause.{ConfigCause}
 use Rattle.runtime_config.specs.declared.fault.ConfigCause.TheVariants.{BadPair, BadBool, UnknownApi, AfterEmulated, RemovedApi}
 use Rattle.runtime_config.specs.declared.fault.ConfigFault.TheVariants.{Memory, At, OnlyAllFalse}
 use Rattle.runtime_config.proofs.NameLemmas.{by_name_total}
-use Rattle.runtime_config.proofs.OrderLemmas.{one_in_order}
+use Rattle.basis.proofs.OrderLemmas.{one_in_order}
 use Rattle.runtime_config.proofs.RefusalLemmas.{fault_refutes, refusal_refutes, fault_refuses, introduced_is_named}
 use Rattle.runtime_config.proofs.law.config_has_one_answer.Goals as goal
 

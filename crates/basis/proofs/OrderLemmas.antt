@@ -1,10 +1,12 @@
 -- Lists that rise strictly in an order: searched in halves, and determined by their elements.
-use Rattle.std.proofs.Common.{◌≡◌, ◌↔◌, Contains, ◌⊎◌, inl, inr, ℕ, ◌+◌, ◌<◌, Ordering, Less, Equal, Greater, List, [], ◌∷◌, get_or, length, Ok, Err, refl, sym, ◌∙◌, ap, arith}
+use Rattle.std.proofs.Common.{◌≡◌, ◌↔◌, Contains, ◌⊎◌, inl, inr, ℕ, ◌+◌, ◌<◌, Ordering, Less, Equal, Greater, List, [], ◌∷◌, get_or, length, map, Ok, Err, refl, sym, ◌∙◌, ap, arith}
 use Rattle.std.specs.Cmp.{IsTotalOrder}
-use Rattle.std.specs.Ordering.{is_lt, ordering_reverse, ordering_then}
+use Rattle.std.specs.Cmp.Lexicographic.{slice_cmp}
+use Rattle.std.specs.List.{AllByRecursion}
+use Rattle.std.specs.Ordering.{on, nat_cmp, is_lt, ordering_reverse, ordering_then}
 use Rattle.std.specs.List.Sorted.{IsStrictlySortedBy, IsSortedBy, IsBinarySearchResult}
 use Rattle.std.proofs.lemmas.Bool.{cases_lt}
-use Rattle.std.proofs.lemmas.Cmp.{tied_itself}
+use Rattle.std.proofs.lemmas.Cmp.{tied_itself, on_total, nat_list_cmp_total}
 use Rattle.std.proofs.lemmas.List.Elements.{All-contains, All-from_recursion, Contains-append_left, Contains-append_right, Contains-append_cases, Contains-push, Contains-push_cases}
 use Rattle.std.proofs.lemmas.List.Sorted.{searchable_from_sorted}
 use Rattle.std.proofs.lemmas.Map.Keys.{Less-from_sorted, sorted_head, sorted_tail}
@@ -84,3 +86,39 @@ module _ {K : Type 0} (R : K → K → Ordering) (o : IsTotalOrder R) where
       let same : x ≡ y = same_head x y xs ys a b ((h x).0 (in_head x xs)) ((h y).1 (in_head y ys)) in
       let rest : xs ≡ ys = one_in_order xs ys (sorted_tail R x xs a) (sorted_tail R y ys b) (λ z. (tail_in x y xs ys z same a (h z).0, tail_in y x ys xs z (sym same) b (h z).1)) in
       ap (λ w. w ∷ xs) same ∙ ap (λ ws. y ∷ ws) rest
+
+  -- and has no two elements that tie
+  pub one_tied : (xs : List K) (x y : K) → IsStrictlySortedBy R xs → Contains xs x → Contains xs y → R x y ≡ Equal → x ≡ y
+  one_tied [] x y rise h k tied = none_in x h
+  one_tied (z ∷ zs) x y rise h k tied = elim (in_cons z zs x h) [
+    | inl first ↦ elim (in_cons z zs y k) [
+      | inl second ↦ sym first ∙ second
+      | inr later ↦ absurd (let clash : Less ≡ Equal = sym (above_head z zs y rise later) ∙ ap (λ a. R a y) first ∙ tied in cc)
+    ]
+    | inr there ↦ elim (in_cons z zs y k) [
+      | inl second ↦ absurd (let clash : Less ≡ Equal = sym (above_head z zs x rise there) ∙ ap (λ a. R a x) second ∙ o.antisymm y x ∙ ap ordering_reverse tied in cc)
+      | inr later ↦ one_tied zs x y (sorted_tail R z zs rise) there later tied
+    ]
+  ]
+
+-- lists that rise by a name
+module _ {X : Type 0} (name : X → List ℕ) where
+  abbrev by_name : X → X → Ordering
+  by_name = on name (slice_cmp nat_cmp)
+
+  all_above : (k : List ℕ) (xs : List X) → AllByRecursion (λ n. slice_cmp nat_cmp k n ≡ Less) (map name xs) → AllByRecursion (λ x. slice_cmp nat_cmp k (name x) ≡ Less) xs
+  all_above k [] h = tt
+  all_above k (x ∷ xs) h = (h.0, all_above k xs h.1)
+
+  rising : (xs : List X) → IsStrictlySortedBy (slice_cmp nat_cmp) (map name xs) → IsStrictlySortedBy by_name xs
+  unfolding IsStrictlySortedBy
+  rising [] h = tt
+  rising (x ∷ xs) h = (all_above (name x) xs h.0, rising xs h.1)
+
+  -- what rises by name is determined by its elements
+  pub one_by_name : (xs ys : List X) → IsStrictlySortedBy (slice_cmp nat_cmp) (map name xs) → IsStrictlySortedBy (slice_cmp nat_cmp) (map name ys) → ((x : X) → Contains xs x ↔ Contains ys x) → xs ≡ ys
+  one_by_name xs ys a b h = one_in_order by_name (on_total name nat_list_cmp_total) xs ys (rising xs a) (rising ys b) h
+
+  -- and has each name once
+  pub one_named : (xs : List X) (x y : X) → IsStrictlySortedBy (slice_cmp nat_cmp) (map name xs) → Contains xs x → Contains xs y → name x ≡ name y → x ≡ y
+  one_named xs x y rise h k same = one_tied by_name (on_total name nat_list_cmp_total) xs x y (rising xs rise) h k (ap (slice_cmp nat_cmp (name x)) (sym same) ∙ tied_itself nat_list_cmp_total (name x))

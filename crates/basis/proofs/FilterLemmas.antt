@@ -1,9 +1,10 @@
--- Elements of filtered lists, and of lists with one element more.
-use Rattle.std.proofs.Common.{◌≡◌, ◌⊎◌, inl, inr, ◌<◌, Bool, true, false, List, [], ◌∷◌, ◌++◌, filter, Contains, sym, ◌∙◌, ap, arith}
-use Rattle.std.specs.List.{Any, AllPairs}
-use Rattle.std.proofs.lemmas.Bool.{cases_order, cond_both, cond-true, cond-false}
+-- Lists of what passes a test.
+use Rattle.std.proofs.Common.{◌≡◌, inl, inr, ◌<◌, Bool, true, false, List, [], ◌∷◌, ◌++◌, filter, Contains, refl, sym, ◌∙◌, ap, arith}
+use Rattle.std.specs.List.{Any}
+use Rattle.std.proofs.lemmas.Bool.{cases_Bool, cond_both, cond-true, cond-false}
 use Rattle.std.proofs.lemmas.List.{append-nil}
-use Rattle.std.proofs.lemmas.List.Elements.{All-contains, All-filter, All-contains_itself, filter_passes, filter-append, Contains-push, Contains-push_cases, Contains-append_left, Contains-append_right, Contains-append_cases, at_from_Contains}
+use Rattle.std.proofs.lemmas.List.Elements.{All-contains, All-filter, All-contains_itself, filter_passes, filter-append, Contains-push_cases, Contains-append_left, Contains-append_right, Contains-append_cases}
+use Rattle.basis.proofs.ElementLemmas.{Any-from}
 
 pub Contains-from_filter : {X : Type 0} (p : X → Bool) (xs : List X) (x : X) → Contains (filter p xs) x → Contains xs x
 Contains-from_filter p xs x h = All-contains (Contains xs) (filter p xs) x (All-filter p (Contains xs) xs (All-contains_itself xs)) h
@@ -32,32 +33,17 @@ filter-push p xs x e = filter-append p xs (x ∷ []) ∙ ap (λ zs. filter p xs 
 pub filter-push_not : {X : Type 0} (p : X → Bool) (xs : List X) (x : X) → p x ≡ false → filter p (xs ++ x ∷ []) ≡ filter p xs
 filter-push_not p xs x e = filter-append p xs (x ∷ []) ∙ ap (λ zs. filter p xs ++ zs) (cond-false (p x) (x ∷ []) [] e) ∙ append-nil (filter p xs)
 
-pub Any-from : {X : Type 0} (P : X → Type 0) (xs : List X) (x : X) → Contains xs x → P x → Any P xs
-Any-from P xs x h p = (h.0, x, h.1, h.2, p)
-
-pub Any-push_left : {X : Type 0} (P : X → Type 0) (xs : List X) (y : X) → Any P xs → Any P (xs ++ y ∷ [])
-Any-push_left P xs y h = Any-from P (xs ++ y ∷ []) h.1 (Contains-append_left xs (y ∷ []) h.1 (h.0, h.2, h.3)) h.4
-
-pub Any-push : {X : Type 0} (P : X → Type 0) (xs : List X) (y : X) → P y → Any P (xs ++ y ∷ [])
-Any-push P xs y p = Any-from P (xs ++ y ∷ []) y (Contains-push xs y) p
-
-pub Any-push_cases : {X : Type 0} (P : X → Type 0) (xs : List X) (y : X) → Any P (xs ++ y ∷ []) → Any P xs ⊎ P y
-Any-push_cases P xs y h =
-    elim (Contains-push_cases xs y h.1 (h.0, h.2, h.3)) [
-      | inl before ↦ inl (Any-from P xs h.1 before h.4)
-      | inr same ↦ inr (rw same h.4)
-    ]
-
 pub Any-from_filter : {X : Type 0} (P : X → Type 0) (p : X → Bool) (xs : List X) → Any P (filter p xs) → Any P xs
 Any-from_filter P p xs h = Any-from P xs h.1 (Contains-from_filter p xs h.1 (h.0, h.2, h.3)) h.4
 
--- two elements are one, or one of them stands before the other
-pub AllPairs-cases : {X : Type 0} (R : X → X → Type 0) (xs : List X) (x y : X) → AllPairs R xs → Contains xs x → Contains xs y → (x ≡ y) ⊎ (R x y ⊎ R y x)
-AllPairs-cases R xs x y pairs a b =
-    let i = at_from_Contains xs x a in
-    let j = at_from_Contains xs y b in
-    elim (cases_order i.0 j.0) [
-      | inl same ↦ inl (sym (i.2 x) ∙ rw same (j.2 x))
-      | inr (inl before) ↦ inr (inl (rw (i.2 x, j.2 x) at (pairs i.0 j.0 x before j.1)))
-      | inr (inr after) ↦ inr (inr (rw (j.2 x, i.2 x) at (pairs j.0 i.0 x after i.1)))
-    ]
+-- what passes once passes again
+pub filter_twice : {X : Type 0} (p : X → Bool) (xs : List X) → filter p (filter p xs) ≡ filter p xs
+filter_twice p [] = refl
+filter_twice p (x ∷ xs) = elim (cases_Bool (p x)) [
+  | inl passes ↦
+      let kept = cond-true (p x) (x ∷ filter p xs) (filter p xs) passes in
+      ap (filter p) kept ∙ cond-true (p x) (x ∷ filter p (filter p xs)) (filter p (filter p xs)) passes ∙ ap (λ ys. x ∷ ys) (filter_twice p xs) ∙ sym kept
+  | inr fails ↦
+      let left = cond-false (p x) (x ∷ filter p xs) (filter p xs) fails in
+      ap (filter p) left ∙ filter_twice p xs ∙ sym left
+]
