@@ -139,3 +139,28 @@ fn listed_numbers(rt: HostRuntime) -> Result<(), Fail> {
     assert!(rt; list.contains(3) && !list.contains(2));
     Ok(())
 }
+
+#[test]
+fn a_disk_of_files(rt: HostRuntime) -> Result<(), Fail> {
+    let alloc = rt.alloc();
+    let folder = "files_of_a_disk";
+    let mut disk = FileDisk::at(&rt, alloc, folder)?;
+    assert_eq!(rt; disk.len(File::Left), Ok(0));
+    assert_eq!(rt; disk.write_at(File::Left, 0, b"abcde"), Ok(()));
+    assert_eq!(rt; disk.cut(File::Left, 4), Ok(()));
+    assert_eq!(rt; disk.sync(File::Left), Ok(()));
+    disk.pass();
+
+    // Beyond the length.
+    assert!(rt; disk.write_at(File::Left, 5, b"f").is_err());
+    assert!(rt; disk.cut(File::Left, 5).is_err());
+
+    let mut again = FileDisk::at(&rt, alloc, folder)?;
+    let mut two = [0; 2];
+    assert_eq!(rt; again.read_at(File::Left, 2, &mut two), Ok(()));
+    assert_eq!(rt; two.as_slice(), b"cd".as_slice());
+    assert!(rt; again.read_at(File::Left, 3, &mut two).is_err());
+    assert_eq!(rt; again.len(File::Right), Ok(0));
+    fs::remove_dir_all(&rt, alloc, folder)?;
+    Ok(())
+}

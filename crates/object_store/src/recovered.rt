@@ -25,17 +25,22 @@ pub(crate) struct Held {
 fn take_in(held: &mut BTreeMap<Key, Held>, entry: Entry) -> Result<(), Memory>
     ensures { OnOk result ((entries : List Entry) → AreLeft held.old entries → AreLeft held.new (entries ++ entry ∷ [])) }
 {
-    match entry.change {
+    let Entry {
+        key,
+        revision,
+        change,
+    } = entry;
+    match change {
         Change::Put { created, body } => {
             let put = Held {
-                revision: entry.revision,
+                revision,
                 created,
                 body,
             };
-            held.insert(entry.key, put)?;
+            held.insert(key, put)?;
         }
         Change::Removal => {
-            held.remove(&entry.key);
+            held.remove(&key);
         }
     }
     Ok(())

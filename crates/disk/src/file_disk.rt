@@ -1,0 +1,243 @@
+//! The real disk. What the machine does with its files no contract can see: here is proved what it counts.
+ghost use Rattle.std.specs.Prelude.{◌≡◌, ◌+◌, ◌<◌, [], length, Ok, IfOk, OnOk};
+ghost use Rattle.basis.specs.Counts.{HasCause};
+ghost use Rattle.disk.specs.Counted.{counted};
+ghost use Rattle.disk.specs.Images.{resting, end_of_lengths};
+ghost use Rattle.disk.specs.Moments.{Ticks};
+
+use crate::disk::Disk;
+use crate::failed::Failed;
+use crate::file::File;
+use crate::slots::fits;
+use basis::raised;
+use std::alloc::Global;
+use std::error::Error;
+use std::fs::{OpenFile, OpenOptions};
+use std::io::{ErrorKind, Read, Seek, SeekFrom, Write};
+use std::rt::Files;
+use std::{fmt, fs, io};
+
+/// Why there is no disk at a folder.
+#[derive(Clone, Copy, Debug, PartialEq, Eq)]
+pub enum AtFault {
+    /// The machine answered an error.
+    Failed,
+    /// Memory ran out.
+    Memory,
+}
+
+impl fmt::Display for AtFault {
+    fn fmt<W: fmt::Write>(&self, f: &mut fmt::Formatter<W>) -> fmt::Result {
+        f.write_str(match self {
+            AtFault::Failed => "the disk failed",
+            AtFault::Memory => "out of memory",
+        })
+    }
+}
+
+impl Error for AtFault {}
+
+impl From<io::Error> for AtFault {
+    fn from(error: io::Error) -> AtFault {
+        match error.kind() {
+            ErrorKind::OutOfMemory => AtFault::Memory,
+            _ => AtFault::Failed,
+        }
+    }
+}
+
+#[derive(Drop)]
+struct FileSet<F> {
+    choice: F,
+    left: F,
+    right: F,
+}
+
+impl<F> FileSet<F> {
+    fn get(&mut self, file: File) -> &mut F {
+        match file {
+            File::Choice => &mut self.choice,
+            File::Left => &mut self.left,
+            File::Right => &mut self.right,
+        }
+    }
+}
+
+/// The files `choice`, `left` and `right` of a folder. It tells nothing, and counts the machine's errors.
+#[derive(Drop)]
+pub struct FileDisk<R: Files> {
+    files: FileSet<R::File>,
+    clock: u64,
+    faults: u64,
+}
+
+// Opens a file of the folder, and makes it empty where it is missing.
+fn open<R: Files>(rt: &R, alloc: Global, folder: &str, name: &str) -> Result<R::File, AtFault> {
+    let Ok(path) = format!(in alloc; "{folder}/{name}") else {
+        return Err(AtFault::Memory);
+    };
+    let file = OpenOptions::new()
+        .read(true)
+        .write(true)
+        .create(true)
+        .open(rt, path.as_str())?;
+    Ok(file)
+}
+
+fn too_far() -> io::Error {
+    io::Error::from(ErrorKind::InvalidInput)
+}
+
+fn length_of<F: OpenFile>(file: &F) -> io::Result<u64>
+    ensures { IfOk result (λ n. n < end_of_lengths) }
+{
+    let len = file.metadata()?.len();
+    if !fits(len, 0) {
+        return Err(too_far());
+    }
+    Ok(len)
+}
+
+fn read_from<F: Read + Seek>(file: &mut F, at: u64, into: &mut [u8]) -> io::Result<()> {
+    file.seek(SeekFrom::Start(at))?;
+    file.read_exact(into)
+}
+
+fn write_to<F: Write + Seek + OpenFile>(file: &mut F, at: u64, bytes: &[u8]) -> io::Result<()>
+    ensures { OnOk result (at + length bytes.now < end_of_lengths) }
+{
+    if !fits(at, bytes.len() as u64) || at > length_of(file)? {
+        return Err(too_far());
+    }
+    file.seek(SeekFrom::Start(at))?;
+    file.write_all(bytes)
+}
+
+fn cut_at<F: OpenFile>(file: &F, to: u64) -> io::Result<()> {
+    if to > length_of(file)? {
+        return Err(too_far());
+    }
+    file.set_len(to)
+}
+
+impl<R: Files> FileDisk<R> {
+    /// The disk of a folder. The folder and the files are made where they are missing.
+    pub fn at(rt: &R, alloc: Global, folder: &str) -> Result<Self, AtFault> {
+        fs::create_dir_all(rt, folder)?;
+        let files = FileSet {
+            choice: open(rt, alloc, folder, "choice")?,
+            left: open(rt, alloc, folder, "left")?,
+            right: open(rt, alloc, folder, "right")?,
+        };
+        // The names of new files outlive a stop only then.
+        fs::open(rt, folder)?.sync_all()?;
+        Ok(FileDisk {
+            files,
+            clock: 0,
+            faults: 0,
+        })
+    }
+
+    /// Raises the clock, unless it stands at its greatest value.
+    pub fn pass(&mut self)
+        ensures clock { self.new.clock ≡ counted self.old.clock }
+        ensures faults { self.new.faults ≡ self.old.faults }
+    {
+        self.clock = self.clock.saturating_add(1);
+    }
+
+    // Counts an error of the machine.
+    fn told<T>(&mut self, done: io::Result<T>) -> Result<T, Failed>
+        ensures value { IfOk result (λ value. done ≡ Ok value) }
+        ensures clock { self.new.clock ≡ self.old.clock }
+        ensures cause { HasCause self.old.faults self.new.faults result }
+    {
+        match done {
+            Ok(value) => Ok(value),
+            Err(_) => {
+                self.faults = raised(self.faults);
+                Err(Failed)
+            }
+        }
+    }
+
+    // Raises the clock for a call that may change a file.
+    fn tick(&mut self) -> Result<(), Failed>
+        ensures clock { Ticks self.old.clock self.new.clock result }
+        ensures cause { HasCause self.old.faults self.new.faults result }
+    {
+        if self.clock == u64::MAX {
+            self.faults = raised(self.faults);
+            return Err(Failed);
+        }
+        self.clock += 1;
+        Ok(())
+    }
+}
+
+impl<R: Files> Disk for FileDisk<R> {
+    ghost use Rattle.disk.specs.Beside.{alone};
+
+    ghost faults = { λ d. d.faults };
+
+    ghost clock = { λ d. d.clock };
+
+    ghost tells = { ⊥ };
+
+    ghost held = { λ _ _. [] };
+
+    ghost pending = { λ _ _. resting [] };
+
+    ghost may_leave = { λ _ _ _. ⊥ };
+
+    ghost beside = { λ _. alone };
+
+    ghost images_now = { λ d images told now. absurd told };
+
+    ghost held_now = { λ d told. absurd told };
+
+    fn len(&mut self, file: File) -> Result<u64, Failed>
+        ensures short { IfOk result (λ n. n < end_of_lengths) }
+        ensures clock { self.new.clock ≡ self.old.clock }
+        ensures cause { HasCause self.old.faults self.new.faults result }
+    {
+        let len = length_of(self.files.get(file));
+        self.told(len)
+    }
+
+    fn read_at(&mut self, file: File, at: u64, into: &mut [u8]) -> Result<(), Failed>
+        ensures clock { self.new.clock ≡ self.old.clock }
+        ensures cause { HasCause self.old.faults self.new.faults result }
+    {
+        let done = read_from(self.files.get(file), at, into);
+        self.told(done)
+    }
+
+    fn write_at(&mut self, file: File, at: u64, bytes: &[u8]) -> Result<(), Failed>
+        ensures short { OnOk result (at + length bytes.now < end_of_lengths) }
+        ensures clock { Ticks self.old.clock self.new.clock result }
+        ensures cause { HasCause self.old.faults self.new.faults result }
+    {
+        self.tick()?;
+        let done = write_to(self.files.get(file), at, bytes);
+        self.told(done)
+    }
+
+    fn cut(&mut self, file: File, to: u64) -> Result<(), Failed>
+        ensures clock { Ticks self.old.clock self.new.clock result }
+        ensures cause { HasCause self.old.faults self.new.faults result }
+    {
+        self.tick()?;
+        let done = cut_at(self.files.get(file), to);
+        self.told(done)
+    }
+
+    fn sync(&mut self, file: File) -> Result<(), Failed>
+        ensures clock { Ticks self.old.clock self.new.clock result }
+        ensures cause { HasCause self.old.faults self.new.faults result }
+    {
+        self.tick()?;
+        let done = self.files.get(file).sync_all();
+        self.told(done)
+    }
+}
