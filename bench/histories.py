@@ -5,6 +5,7 @@ SIZE is in bytes, or with a K or an M behind it in KiB or MiB. The document is a
 fields come with their spellings whole units of these.
 """
 
+import json
 import sys
 
 FIRST, LAST = "1.1", "1.20"
@@ -226,6 +227,36 @@ KINDS = {
     "spelled_versions": lambda: ([], spelled_version_units(), []),
     "forgotten_versions": forgotten_versions,
 }
+
+
+# The version that an object of a kind of history is in and is to be shown in, and its kind; and the fields that it has.
+OBJECTS = {
+    "lawful": ("team0.example/v1", "Item0"),
+    "versions": ("demo.example/v1beta1", "Widgets"),
+    "resources": ("demo.example/v1", "Widgets0"),
+    "groups": ("group0.example/v1", "Widgets"),
+    "one_replacement": ("demo.example/v2", "Widgets"),
+    "fields": ("team0.example/v1", "Item0"),
+    "one_field": ("team0.example/v1", "Item0"),
+    "spelled_versions": ("demo.example/v1beta1", "Widgets"),
+    "forgotten_versions": ("demo.example/v1", "Widgets"),
+}
+FIELDS = {
+    "fields": [f"f{number}" for number in range(FIELDS_OF_A_RESOURCE)],
+    "one_field": ["size"],
+    "spelled_versions": ["size", "color"],
+    "forgotten_versions": [f"f{number}" for number in range(FIELDS_OF_A_RESOURCE)],
+}
+
+
+def object_words(kind):
+    """The options of `convert` for an object with all fields of its resource, or for one that the history doesn't know."""
+    version, name = OBJECTS.get(kind, ("demo.example/v1", "Widgets"))
+    value = {field: "x" for field in FIELDS.get(kind, [])}
+    for segment in reversed("abcdefg"):
+        value = {segment: value} if value else value
+    value.update(apiVersion=version, kind=name)
+    return [f"--to={version}", f"--object={json.dumps(value)}"]
 
 
 def framed(array, entries):
