@@ -7,7 +7,8 @@ use Rattle.std.specs.Global.{Vec}
 use Rattle.std.proofs.lemmas.Bool.{false≢true}
 use Rattle.std.proofs.lemmas.List.Elements.{All-cons, All-nil}
 use Rattle.basis.specs.NameMap.{is_same_name}
-use Rattle.listing.specs.Listing.{Listed, lent, lent_in, listed_at, Name, IsListing, HasLent, EachLent}
+use Rattle.basis.proofs.FilterLemmas.{filter-push, filter-push_not}
+use Rattle.listing.specs.Listing.{Listed, lent, lent_in, listed_at, Name, name_of, IsListing, HasLent, EachLent}
 use Rattle.listing.proofs.NameLemmas.{parts_same}
 
 pub on_ok : {T E : Type 0} (r : Result T E) {P Q : Type 0} → (P → Q) → OnOk r P → OnOk r Q
@@ -30,6 +31,19 @@ pub moved : {E : Type 0} (m : Listed E) (a b c x y z : List ℕ) → is_same_nam
 moved m a b c x y z same =
     let (p, q, r) = parts_same a b c x y z same in
     ap (λ (n : List ℕ). listed_at m n b c) p ∙ ap (λ (n : List ℕ). listed_at m x n c) q ∙ ap (λ (n : List ℕ). listed_at m x y n) r
+
+-- the entries of this name
+abbrev pub of_name : {E : Type 0} → (E → Name) → List ℕ → List ℕ → List ℕ → E → Bool
+of_name name a b c x = is_same_name (name x).first (name x).second (name x).third a b c
+
+grown_at : {E : Type 0} (test : E → Bool) (entries : List E) (x : E) (b : Bool) (old new : List E) → new ≡ cond b (old ++ x ∷ []) old → test x ≡ b → old ≡ filter test entries → new ≡ filter test (entries ++ x ∷ [])
+grown_at test entries x true old new puts same is = puts ∙ ap (λ l. l ++ x ∷ []) is ∙ sym (filter-push test entries x same)
+grown_at test entries x false old new puts same is = puts ∙ is ∙ sym (filter-push_not test entries x same)
+
+-- an entry more at its name makes a listing of one entry more
+pub grown : {E : Type 0} (named : E → Name) (entries : List E) (x : E) (a b c : List ℕ) (old new : Listed E) → ((p q r : List ℕ) → listed_at new p q r ≡ cond (is_same_name a b c p q r) (listed_at old p q r ++ x ∷ []) (listed_at old p q r)) → named x ≡ name_of a b c → IsListing named entries old → IsListing named (entries ++ x ∷ []) new
+grown {E} named entries x a b c old new puts same listing p q r =
+    grown_at (of_name named p q r) entries x (is_same_name a b c p q r) (listed_at old p q r) (listed_at new p q r) (puts p q r) (ap (λ (n : Name). is_same_name n.first n.second n.third p q r) same) (listing p q r)
 
 any_uncons : {E : Type 0} (P : E → Type 0) (x : E) (xs : List E) (k : ℕ) (y : E) → k < length (x ∷ xs) → get_or (x ∷ xs) k y ≡ y → P y → P x ⊎ Any P xs
 any_uncons {E} P x xs zero y h e p = inl (subst P (sym e) p)
@@ -107,10 +121,6 @@ each_lent : {E : Type 0} (P : E → Type 0) (o : Option (Bor (Vec (Bor E)))) →
 each_lent P None = (λ h. All-nil P, λ all. tt)
 each_lent P (Some v) = all_lent P v.now.items
 
--- the entries of this name
-abbrev pub of_name : {E : Type 0} → (E → Name) → List ℕ → List ℕ → List ℕ → E → Bool
-of_name name a b c x = is_same_name (name x).first (name x).second (name x).third a b c
-
 -- what one of the entries listed at a name is, one of all entries is
 pub any_found : {E : Type 0} (P Q : E → Type 0) (name : E → Name) (entries : List E) (m : Listed E) (o : Option (Bor (Vec (Bor E)))) (a b c : List ℕ) → IsListing name entries m → lent_in o ≡ listed_at m a b c → ((x : E) → Q x ↔ ((of_name name a b c x ≡ true) × P x)) → HasLent P o ↔ Any Q entries
 any_found {E} P Q name entries m o a b c listing is same =
@@ -124,3 +134,11 @@ all_found {E} P Q name entries m o a b c listing is same =
     let all = all_filtered P Q (of_name name a b c) entries same in
     let here = subst (λ (l : List E). EachLent P o ↔ All P l) (is ∙ listing a b c) (each_lent P o) in
     (λ h. all.0 (here.0 h), λ every. here.1 (all.1 every))
+
+all_kept : {E : Type 0} (xs : List E) → filter (λ x. true) xs ≡ xs
+all_kept [] = refl
+all_kept (x ∷ xs) = ap (λ l. x ∷ l) (all_kept xs)
+
+-- where each entry is kept all are listed
+pub all_listed : {E : Type 0} (named : E → Name) (xs : List E) (m : Listed E) → IsListing named (filter (λ x. true) xs) m → IsListing named xs m
+all_listed named xs m listing a b c = listing a b c ∙ ap (λ l. filter (of_name named a b c) l) (all_kept xs)

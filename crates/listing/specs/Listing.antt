@@ -1,5 +1,5 @@
 -- Entries listed by names of three parts.
-use Rattle.std.specs.Prelude.{ℕ, ◌≡◌, List, [], Option, map, filter, All, Any, IfSome, IsSomeAnd}
+use Rattle.std.specs.Prelude.{ℕ, ◌≡◌, List, [], Bool, Option, map, filter, All, Any, IfSome, IsSomeAnd}
 use Rattle.std.specs.Option.{option_map_or}
 use Rattle.std.specs.BTreeMap.{BTreeMap}
 use Rattle.std.specs.Borrow.{Bor}
@@ -26,6 +26,17 @@ pub record Name : Type 0 where
   pub first : List ℕ
   pub second : List ℕ
   pub third : List ℕ
+
+abbrev pub name_of : List ℕ → List ℕ → List ℕ → Name
+name_of a b c = record { first = a; second = b; third = c }
+
+-- what a function says of an entry is the entry's name
+abbrev pub Names : {E : Type 0} → (Bor E → Bor (List ℕ) × Bor (List ℕ) × Bor (List ℕ) → Type 0) → (E → Name) → Type 0
+Names {E} says named = (x : Bor E) (parts : Bor (List ℕ) × Bor (List ℕ) × Bor (List ℕ)) → says x parts → named x.now ≡ name_of parts.0.now parts.1.now parts.2.now
+
+-- what a function says of an entry is the outcome of the test
+abbrev pub Tells : {E : Type 0} → (Bor E → Bool → Type 0) → (E → Bool) → Type 0
+Tells {E} says test = (x : Bor E) (is_so : Bool) → says x is_so → is_so ≡ test x.now
 
 -- at each name the entries of that name are listed, in order
 abbrev pub IsListing : {E : Type 0} → (E → Name) → List E → Listed E → Type 0
