@@ -10,7 +10,8 @@ use Rattle.gate_spec.specs.declared.entry.GateEntry.{GateEntry}
 use Rattle.lifecycle.specs.Entry.{GroupVersionResource, subject, IsIntroduction, IsKnownOf}
 use Rattle.lifecycle.specs.declared.entry.ApiEntry.{ApiEntry}
 use Rattle.schemas.specs.ApiRules.{name_of, IsForgetting, IsForgotten}
-use Rattle.field_rules.specs.Keys.{gate_of, resource_of_api, version_of_api, resource_of_field, version_of_spell}
+use Rattle.field_rules.specs.Keys.{gate_of, resource_of_api, version_of_api}
+use Rattle.listing.specs.Keys.{resource_of_field, version_of_spell}
 use Rattle.listing.specs.Listing.{Listed, lent_in, listed_at, IsListing, HasLent, EachLent}
 use Rattle.schemas.specs.Pairs.{IntroducesVersionOf, IsPair, IsOfField, IsOfVersion, IsSpelling, SpellsPair}
 use Rattle.field_rules.specs.Answers.{IsSpelledIn, PairsWith}

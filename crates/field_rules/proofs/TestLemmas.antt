@@ -10,7 +10,7 @@ use Rattle.schemas.proofs.PreviousLemmas.{entry_at}
 use Rattle.fields.specs.declared.field.Field.{Field}
 use Rattle.fields.specs.declared.field.Spell.{Spell}
 use Rattle.schemas.specs.FieldRules.{is_of_resource, AreOneField}
-use Rattle.field_rules.specs.Keys.{resource_of_field, version_of_spell}
+use Rattle.listing.specs.Keys.{resource_of_field, version_of_spell}
 use Rattle.listing.specs.Listing.{Listed, lent_in, listed_at, IsListing, HasLent, EachLent}
 use Rattle.schemas.specs.Pairs.{AreOfOneVersion, AreOfOnePair}
 use Rattle.fields.specs.Table.{AreApart}

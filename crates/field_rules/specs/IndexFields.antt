@@ -1,5 +1,6 @@
 -- The fields of an index of entries, as contracts see it.
-use Rattle.field_rules.specs.Keys.{gate_of, resource_of_api, version_of_api, resource_of_field, version_of_spell}
+use Rattle.field_rules.specs.Keys.{gate_of, resource_of_api, version_of_api}
+use Rattle.listing.specs.Keys.{resource_of_field, version_of_spell}
 use Rattle.listing.specs.Listing.{IsListing}
 use Rattle.field_rules.specs.Lists.{lists}
 use Rattle.schemas.specs.Dated.{Dated}

@@ -1,29 +1,17 @@
 //! Entries listed by the names that other entries give them.
 ghost use Rattle.std.specs.Prelude.{List, [], ◌∷◌, ◌++◌, OnOk, IfOk};
-ghost use Rattle.gate_spec.specs.declared.entry.GateEntry.{GateEntry as TheGate};
-ghost use Rattle.lifecycle.specs.declared.entry.ApiEntry.{ApiEntry as TheApi};
 ghost use Rattle.fields.specs.declared.field.Field.{Field as TheField};
 ghost use Rattle.fields.specs.declared.field.Spell.{Spell as TheSpell};
+ghost use Rattle.listing.specs.Keys.{resource_of_field, version_of_spell};
 ghost use Rattle.listing.specs.Listing.{IsListing};
-ghost use Rattle.field_rules.specs.Keys.{gate_of, resource_of_api, version_of_api, resource_of_field, version_of_spell};
+ghost use Rattle.field_rules.specs.Keys.{gate_of, resource_of_api, version_of_api};
 
 use basis::Memory;
 use fields::{Field, Spell};
 use gate_spec::GateEntry;
 use lifecycle::ApiEntry;
-use listing::{Listing, add};
+use listing::{Listing, add, list_by, resource_of_field, version_of_spell};
 use std::alloc::Global;
-use std::collections::BTreeMap;
-
-fn take_gate<'a>(
-    alloc: Global,
-    gates: &mut Listing<'a, GateEntry>,
-    entry: &'a GateEntry,
-) -> Result<(), Memory>
-    ensures { OnOk result ((entries : List TheGate) → IsListing gate_of entries gates.old → IsListing gate_of (entries ++ entry.now ∷ []) gates.new) }
-{
-    add(alloc, gates, entry.name.bytes(), &[], &[], entry)
-}
 
 /// The entries of each gate.
 pub fn list_gates<'a>(
@@ -32,31 +20,7 @@ pub fn list_gates<'a>(
 ) -> Result<Listing<'a, GateEntry>, Memory>
     ensures { IfOk result (IsListing gate_of entries.now) }
 {
-    let mut listing: Listing<'a, GateEntry> = BTreeMap::new(alloc);
-    for entry in entries {
-        match take_gate(alloc, &mut listing, entry) {
-            Ok(()) => {}
-            Err(Memory) => return Err(Memory),
-        }
-    }
-    Ok(listing)
-}
-
-fn take_by_resource<'a>(
-    alloc: Global,
-    listing: &mut Listing<'a, ApiEntry>,
-    entry: &'a ApiEntry,
-) -> Result<(), Memory>
-    ensures { OnOk result ((entries : List TheApi) → IsListing resource_of_api entries listing.old → IsListing resource_of_api (entries ++ entry.now ∷ []) listing.new) }
-{
-    add(
-        alloc,
-        listing,
-        entry.group.bytes(),
-        entry.resource.bytes(),
-        &[],
-        entry,
-    )
+    list_by(alloc, entries, |x| (x.name.bytes(), &[], &[]))
 }
 
 /// The entries of each resource.
@@ -66,31 +30,9 @@ pub fn list_resources<'a>(
 ) -> Result<Listing<'a, ApiEntry>, Memory>
     ensures { IfOk result (IsListing resource_of_api entries.now) }
 {
-    let mut listing: Listing<'a, ApiEntry> = BTreeMap::new(alloc);
-    for entry in entries {
-        match take_by_resource(alloc, &mut listing, entry) {
-            Ok(()) => {}
-            Err(Memory) => return Err(Memory),
-        }
-    }
-    Ok(listing)
-}
-
-fn take_by_version<'a>(
-    alloc: Global,
-    listing: &mut Listing<'a, ApiEntry>,
-    entry: &'a ApiEntry,
-) -> Result<(), Memory>
-    ensures { OnOk result ((entries : List TheApi) → IsListing version_of_api entries listing.old → IsListing version_of_api (entries ++ entry.now ∷ []) listing.new) }
-{
-    add(
-        alloc,
-        listing,
-        entry.group.bytes(),
-        entry.version.bytes(),
-        entry.resource.bytes(),
-        entry,
-    )
+    list_by(alloc, entries, |x| {
+        (x.group.bytes(), x.resource.bytes(), &[])
+    })
 }
 
 /// The entries of each version.
@@ -100,14 +42,23 @@ pub fn list_versions<'a>(
 ) -> Result<Listing<'a, ApiEntry>, Memory>
     ensures { IfOk result (IsListing version_of_api entries.now) }
 {
-    let mut listing: Listing<'a, ApiEntry> = BTreeMap::new(alloc);
-    for entry in entries {
-        match take_by_version(alloc, &mut listing, entry) {
-            Ok(()) => {}
-            Err(Memory) => return Err(Memory),
-        }
-    }
-    Ok(listing)
+    list_by(alloc, entries, |x| {
+        (x.group.bytes(), x.version.bytes(), x.resource.bytes())
+    })
+}
+
+/// The fields of each resource.
+pub fn list_fields<'a>(alloc: Global, entries: &'a [Field]) -> Result<Listing<'a, Field>, Memory>
+    ensures { IfOk result (IsListing resource_of_field entries.now) }
+{
+    list_by(alloc, entries, |x| resource_of_field(x))
+}
+
+/// The spellings of each version.
+pub fn list_spells<'a>(alloc: Global, entries: &'a [Spell]) -> Result<Listing<'a, Spell>, Memory>
+    ensures { IfOk result (IsListing version_of_spell entries.now) }
+{
+    list_by(alloc, entries, |x| version_of_spell(x))
 }
 
 /// Lists one more field.
@@ -118,28 +69,8 @@ pub fn take_field<'a>(
 ) -> Result<(), Memory>
     ensures { OnOk result ((entries : List TheField) → IsListing resource_of_field entries fields.old → IsListing resource_of_field (entries ++ entry.now ∷ []) fields.new) }
 {
-    add(
-        alloc,
-        fields,
-        entry.group.bytes(),
-        entry.resource.bytes(),
-        &[],
-        entry,
-    )
-}
-
-/// The fields of each resource.
-pub fn list_fields<'a>(alloc: Global, entries: &'a [Field]) -> Result<Listing<'a, Field>, Memory>
-    ensures { IfOk result (IsListing resource_of_field entries.now) }
-{
-    let mut listing: Listing<'a, Field> = BTreeMap::new(alloc);
-    for entry in entries {
-        match take_field(alloc, &mut listing, entry) {
-            Ok(()) => {}
-            Err(Memory) => return Err(Memory),
-        }
-    }
-    Ok(listing)
+    let (group, resource, rest) = resource_of_field(entry);
+    add(alloc, fields, group, resource, rest, entry)
 }
 
 /// Lists one more spelling.
@@ -150,26 +81,6 @@ pub fn take_spell<'a>(
 ) -> Result<(), Memory>
     ensures { OnOk result ((entries : List TheSpell) → IsListing version_of_spell entries spells.old → IsListing version_of_spell (entries ++ entry.now ∷ []) spells.new) }
 {
-    add(
-        alloc,
-        spells,
-        entry.group.bytes(),
-        entry.version.bytes(),
-        entry.resource.bytes(),
-        entry,
-    )
-}
-
-/// The spellings of each version.
-pub fn list_spells<'a>(alloc: Global, entries: &'a [Spell]) -> Result<Listing<'a, Spell>, Memory>
-    ensures { IfOk result (IsListing version_of_spell entries.now) }
-{
-    let mut listing: Listing<'a, Spell> = BTreeMap::new(alloc);
-    for entry in entries {
-        match take_spell(alloc, &mut listing, entry) {
-            Ok(()) => {}
-            Err(Memory) => return Err(Memory),
-        }
-    }
-    Ok(listing)
+    let (group, version, resource) = version_of_spell(entry);
+    add(alloc, spells, group, version, resource, entry)
 }

@@ -4,7 +4,7 @@ ghost use Rattle.fields.specs.declared.field.Field.{Field as TheField};
 ghost use Rattle.schemas.specs.Places.{FindsFirst};
 ghost use Rattle.schemas.specs.Rules.{first_of};
 ghost use Rattle.schemas.specs.FieldRules.{is_of_resource, AreOneField, begins_at, BelongsToResource, IsRequiredFairly, HasKnownGate, IsSpelledThroughout};
-ghost use Rattle.field_rules.specs.Keys.{resource_of_field};
+ghost use Rattle.listing.specs.Keys.{resource_of_field};
 ghost use Rattle.listing.specs.Listing.{IsListing};
 
 use crate::entries::{count, has_field};

@@ -2,7 +2,7 @@
 ghost use Rattle.std.specs.Prelude.{◌≡◌, ◌↔◌, List, IsTrue, IfOk, All};
 ghost use Rattle.fields.specs.declared.field.Spell.{Spell as TheSpell};
 ghost use Rattle.schemas.specs.Places.{FindsFirst};
-ghost use Rattle.field_rules.specs.Keys.{version_of_spell};
+ghost use Rattle.listing.specs.Keys.{version_of_spell};
 ghost use Rattle.listing.specs.Listing.{IsListing};
 ghost use Rattle.schemas.specs.Pairs.{AreOfOneVersion, AreOfOnePair};
 ghost use Rattle.fields.specs.Table.{AreApart};

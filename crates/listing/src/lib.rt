@@ -9,8 +9,11 @@ use basis::{Memory, NameMap, put};
 use std::alloc::Global;
 use std::collections::BTreeMap;
 
+mod keys;
 #[cfg(test)]
 mod tests;
+
+pub use keys::{resource_of_field, version_of_spell};
 
 /// Entries listed by names of three parts.
 pub type Listing<'a, E> = NameMap<'a, Vec<&'a E>>;

@@ -2,7 +2,7 @@ use Rattle.std.proofs.Common.{rules, arith, ◌≡◌, ◌+◌, ◌↔◌, List,
 use Rattle.std.proofs.lemmas.List.{take_more}
 use Rattle.fields.specs.declared.field.Field.{Field}
 use Rattle.schemas.specs.FieldRules.{BelongsToResource}
-use Rattle.field_rules.specs.Keys.{resource_of_field}
+use Rattle.listing.specs.Keys.{resource_of_field}
 use Rattle.listing.specs.Listing.{IsListing}
 use Rattle.schemas.specs.Rules.{first_of}
 use Rattle.schemas.proofs.PlaceLemmas.{each_more, each_whole, first_broken}

@@ -1,5 +1,5 @@
 use Rattle.std.proofs.Common.{take}
-use Rattle.field_rules.specs.Keys.{resource_of_field}
+use Rattle.listing.specs.Keys.{resource_of_field}
 use Rattle.listing.specs.Listing.{IsListing}
 use Rattle.schemas.specs.FieldRules.{BelongsToResource}
 use Rattle.schemas.specs.Rules.{first_of}

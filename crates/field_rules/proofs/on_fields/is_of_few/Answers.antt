@@ -2,7 +2,7 @@ use Rattle.std.proofs.Common.{◌≡◌, List, length, rules}
 use Rattle.std.specs.Prelude.{filter}
 use Rattle.fields.specs.declared.field.Field.{Field}
 use Rattle.schemas.specs.FieldRules.{is_of_resource}
-use Rattle.field_rules.specs.Keys.{resource_of_field}
+use Rattle.listing.specs.Keys.{resource_of_field}
 use Rattle.listing.specs.Listing.{IsListing}
 use Rattle.field_rules.proofs.TestLemmas.{few}
 use Rattle.field_rules.proofs.on_fields.is_of_few.Goals as goal

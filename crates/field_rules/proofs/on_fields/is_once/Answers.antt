@@ -1,6 +1,6 @@
 use Rattle.std.proofs.Common.{List}
 use Rattle.fields.specs.declared.field.Field.{Field}
-use Rattle.field_rules.specs.Keys.{resource_of_field}
+use Rattle.listing.specs.Keys.{resource_of_field}
 use Rattle.listing.specs.Listing.{IsListing}
 use Rattle.field_rules.proofs.TestLemmas.{once}
 use Rattle.field_rules.proofs.on_fields.is_once.Goals as goal

@@ -2,7 +2,7 @@ use Rattle.std.proofs.Common.{rules, arith, ◌≡◌, ◌+◌, ◌↔◌, List,
 use Rattle.std.proofs.lemmas.List.{take_more}
 use Rattle.fields.specs.declared.field.Spell.{Spell}
 use Rattle.schemas.specs.SpellRules.{SpellsPairOnce}
-use Rattle.field_rules.specs.Keys.{version_of_spell}
+use Rattle.listing.specs.Keys.{version_of_spell}
 use Rattle.listing.specs.Listing.{IsListing}
 use Rattle.schemas.proofs.PlaceLemmas.{each_more, each_whole, first_broken}
 use Rattle.field_rules.proofs.on_spellings.first_unpaired.Goals as goal

@@ -1,5 +1,5 @@
 use Rattle.std.proofs.Common.{take}
-use Rattle.field_rules.specs.Keys.{version_of_spell}
+use Rattle.listing.specs.Keys.{version_of_spell}
 use Rattle.listing.specs.Listing.{IsListing}
 use Rattle.schemas.specs.SpellRules.{SpellsPairOnce}
 use Rattle.schemas.proofs.PlaceLemmas.{EachBelow}

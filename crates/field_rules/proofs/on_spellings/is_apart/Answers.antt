@@ -1,6 +1,6 @@
 use Rattle.std.proofs.Common.{List}
 use Rattle.fields.specs.declared.field.Spell.{Spell}
-use Rattle.field_rules.specs.Keys.{version_of_spell}
+use Rattle.listing.specs.Keys.{version_of_spell}
 use Rattle.listing.specs.Listing.{IsListing}
 use Rattle.field_rules.proofs.TestLemmas.{apart}
 use Rattle.field_rules.proofs.on_spellings.is_apart.Goals as goal

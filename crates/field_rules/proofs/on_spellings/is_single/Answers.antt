@@ -1,6 +1,6 @@
 use Rattle.std.proofs.Common.{List}
 use Rattle.fields.specs.declared.field.Spell.{Spell}
-use Rattle.field_rules.specs.Keys.{version_of_spell}
+use Rattle.listing.specs.Keys.{version_of_spell}
 use Rattle.listing.specs.Listing.{IsListing}
 use Rattle.field_rules.proofs.TestLemmas.{single}
 use Rattle.field_rules.proofs.on_spellings.is_single.Goals as goal

@@ -1,7 +1,0 @@
-use Rattle.std.proofs.Common.{take}
-use Rattle.listing.specs.Listing.{IsListing}
-use Rattle.field_rules.specs.Keys.{resource_of_field}
-use Rattle.field_rules.proofs.keys.list_fields.Given as goal
-
-abbrev pub invariant-loop-entry : goal.invariant-loop-entry
-invariant-loop-entry l = IsListing resource_of_field (take l.entry-index l.entries) l.listing
