@@ -1,5 +1,5 @@
 -- What passes over a list tell of its items.
-use Rattle.std.proofs.Common.{ℕ, zero, suc, ◌≡◌, ◌+◌, ◌<◌, ◌≤◌, ◌↔◌, ◌⊎◌, List, [], ◌∷◌, Bool, true, false, length, refl, sym, subst, arith, inl, inr, get_or}
+use Rattle.std.proofs.Common.{ℕ, ◌≡◌, ◌+◌, ◌<◌, ◌≤◌, ◌↔◌, List, Bool, true, false, length, refl, sym, subst, arith, inl, inr, get_or}
 use Rattle.std.specs.Prelude.{All, Any, IsTrue, MatchBool}
 use Rattle.std.specs.List.{AllWithin, HoldsAt}
 use Rattle.std.proofs.lemmas.Bool.{false≢true}
