@@ -8,6 +8,8 @@ mod law;
 mod releases;
 mod resources;
 #[cfg(test)]
+mod row_tests;
+#[cfg(test)]
 mod tests;
 mod text;
 

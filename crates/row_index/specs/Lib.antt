@@ -1,4 +1,3 @@
-pub mod Keys
 pub mod Once
 pub mod Source
 pub mod Made

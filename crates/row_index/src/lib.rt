@@ -6,8 +6,6 @@ mod index;
 mod keys;
 mod law;
 mod made;
-#[cfg(test)]
-mod tests;
 
 pub use index::RowIndex;
 pub use law::version_has_one_table;

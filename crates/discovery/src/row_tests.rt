@@ -1,10 +1,11 @@
-use crate::{RowIndex, version_has_one_table};
+//! The rows of the versions of a resource, at several releases and with a gate set.
 use fields::{FieldRow, FieldValue};
 use gate_flags::gate_values;
 use history_reader::read_history;
 use history_rules::check;
 use lifecycle::ApiName;
 use minor_version::from_number;
+use row_index::{RowIndex, version_has_one_table};
 use schemas::{Accepted, gates_rise_in_date};
 use std::alloc::Global;
 use std::test::Fail;
