@@ -1,0 +1,57 @@
+//! What is said of a store.
+ghost use Rattle.std.specs.Prelude.{◌≡◌, IfOk, string_bytes};
+ghost use Rattle.store_report.specs.Report.{file_name, store_line, not_a_store_line, report_line, report_status};
+
+use disk::File;
+use object_store::{OpenFault, Store};
+use std::alloc::{AllocError, Global};
+
+/// The name of a file in its folder.
+pub fn name_of(file: File) -> &'static str
+    ensures { result.now ≡ file_name file }
+{
+    match file {
+        File::Choice => "choice",
+        File::Left => "left",
+        File::Right => "right",
+    }
+}
+
+fn of_store(alloc: Global, store: &Store) -> Result<String, AllocError>
+    ensures { IfOk result (λ s. string_bytes s ≡ store_line store.now) }
+{
+    let count = store.items().len();
+    let revision = store.revision();
+    format!(in alloc; "store: {count} records, revision {revision}\n")
+}
+
+fn of_refusal(alloc: Global, file: File, at: u64) -> Result<String, AllocError>
+    ensures { IfOk result (λ s. string_bytes s ≡ not_a_store_line file at) }
+{
+    let name = name_of(file);
+    format!(in alloc; "store: not a store: {name} at {at}\n")
+}
+
+/// The line that tells of the store, or of why it wasn't opened.
+pub fn line_of(alloc: Global, store: &Result<Store, OpenFault>) -> Result<String, AllocError>
+    ensures { IfOk result (λ s. string_bytes s ≡ report_line store.now) }
+{
+    match store {
+        Ok(store) => of_store(alloc, store),
+        Err(OpenFault::NotAStore { file, at }) => of_refusal(alloc, *file, *at),
+        Err(OpenFault::Disk) => String::from_str(alloc, "disk fault\n"),
+        Err(OpenFault::Memory) => String::from_str(alloc, "out of memory\n"),
+    }
+}
+
+/// The status of the process, by the numbers of `kube_emu`.
+pub fn status_of(store: &Result<Store, OpenFault>) -> u8
+    ensures { result ≡ report_status store.now }
+{
+    match store {
+        Ok(_) => 0,
+        Err(OpenFault::Memory) => 3,
+        Err(OpenFault::Disk) => 6,
+        Err(OpenFault::NotAStore { .. }) => 10,
+    }
+}
