@@ -3,8 +3,8 @@ use Rattle.schemas.specs.Dated.{Dated}
 use Rattle.schemas.specs.Rules.{IsAccepted}
 use Rattle.schemas.specs.declared.accepted.Accepted.TheInside.{Inside}
 
-abbrev pub kept : Inside → Dated
-kept a = a.history
+abbrev pub history_of : Inside → Dated
+history_of a = a.history
 
-abbrev pub IsKept : Inside → Type 0
-IsKept a = IsAccepted a.history
+abbrev pub MeetsRules : Inside → Type 0
+MeetsRules a = IsAccepted a.history

@@ -13,11 +13,11 @@ impl Model for Accepted {
 
     ghost Value = { Dated };
 
-    ghost use Rattle.schemas.specs.AcceptedFields.{kept, IsKept};
+    ghost use Rattle.schemas.specs.AcceptedFields.{history_of, MeetsRules};
 
-    ghost view = { kept };
+    ghost view = { history_of };
 
-    ghost invariant = { IsKept };
+    ghost invariant = { MeetsRules };
 }
 
 impl Accepted {
