@@ -13,7 +13,7 @@ use Rattle.object_journal.specs.Payload.{frame_bytes}
 use Rattle.object_journal.specs.KeyOrder.{by_key}
 use Rattle.object_journal.specs.Journal.{AreLawful, HasNoNext, IsHeader, IsGated, IsJournal, IsBrokenAt, last_revision, revision_after, open_gate, header_of, records_of}
 use Rattle.object_journal.specs.HeldKeys.{AreHeld}
-use Rattle.object_journal.specs.Readings.{Begins, Advances, HasHeader, IsReadTo, IsGateOf}
+use Rattle.object_journal.specs.Readings.{Begins, Advances, HasHeader, IsReadTo, IsWholeReading}
 use Rattle.object_journal.specs.EntryLaws.{not_empty}
 use Rattle.object_journal.proofs.Appends.{records_more}
 
@@ -23,17 +23,16 @@ none_held held none k = (
   (λ h. absurd (not_empty h.1.before h.0 h.1.behind h.1.parts)),
 )
 
-pub begins : (base : ℕ) (entries : List Entry) (held : BTreeSet Key) → base ≤ last_revision → entries ≡ [] → held.keys ≡ [] → Begins (record { base = base; revision = base; entries = entries; held = held }) base
-begins base entries held fits none empty = record {
+pub begins : (base : ℕ) (held : BTreeSet Key) → base ≤ last_revision → held.keys ≡ [] → Begins (record { base = base; revision = base; held = held }) base
+begins base held fits empty = record {
   state = record {
     base_fits = fits;
-    lawful = subst (AreLawful base) (sym none) (λ before e behind p. absurd (not_empty before e behind p));
-    held = subst (AreHeld held) (sym none) (none_held held empty);
-    revision = ap (λ (es : List Entry). revision_after base es) (sym none);
+    lawful = λ before e behind p. absurd (not_empty before e behind p);
+    held = none_held held empty;
+    revision = refl;
     revision_fits = fits;
   };
   base_is = refl;
-  none = none;
 }
 
 -- the bytes in front of a gate, the gate, and those behind it
@@ -42,32 +41,36 @@ at_gate bytes front place gate is within byte =
     let behind : drop place bytes ≡ get_or bytes place 0 ∷ drop (place + 1) bytes = rw (add-one, drop-cons bytes place 0 within) refl in
     sym (take-append-drop place bytes) ∙ (λ i. is i ++ behind i) ∙ ap (λ (g : ℕ). front ++ g ∷ drop (place + 1) bytes) byte
 
-whole_at : (r : Reading) (bytes : List ℕ) (place gate : ℕ) → IsReadTo r bytes place → get_or bytes place 0 ≡ gate → bytes ≡ header_of r.base ++ (records_of r.entries ++ gate ∷ drop (place + 1) bytes)
-whole_at r bytes place gate h byte = at_gate bytes (header_of r.base ++ records_of r.entries) place gate h.front h.within byte ∙ append_assoc (header_of r.base) (records_of r.entries) (gate ∷ drop (place + 1) bytes)
+whole_at : (r : Reading) (es : List Entry) (bytes : List ℕ) (place gate : ℕ) → IsReadTo r es bytes place → get_or bytes place 0 ≡ gate → bytes ≡ header_of r.base ++ (records_of es ++ gate ∷ drop (place + 1) bytes)
+whole_at r es bytes place gate h byte = at_gate bytes (header_of r.base ++ records_of es) place gate h.front h.within byte ∙ append_assoc (header_of r.base) (records_of es) (gate ∷ drop (place + 1) bytes)
 
-pub starts : (r : Reading) (bytes : List ℕ) (base : ℕ) → Begins r base → HasHeader bytes base → 17 ≤ length bytes → IsReadTo r bytes 16
+pub starts : (r : Reading) (bytes : List ℕ) (base : ℕ) → Begins r base → HasHeader bytes base → 17 ≤ length bytes → IsReadTo r [] bytes 16
 starts r bytes base b h long = record {
   state = b.state;
-  front = ap (λ (t : List ℕ). take 16 t) h.parts ∙ (λ i. header_of (sym b.base_is i) ++ records_of (sym b.none i));
+  front = ap (λ (t : List ℕ). take 16 t) h.parts ∙ ap (λ (n : ℕ). header_of n ++ []) (sym b.base_is);
   within = omega (arith, long);
 }
 
-pub ends : (r : Reading) (bytes : List ℕ) (place : ℕ) → IsReadTo r bytes place → get_or bytes place 0 ≢ open_gate → IsGated bytes r.base r.entries
-ends r bytes place h closed = record {
-  gate = get_or bytes place 0;
-  behind = drop (place + 1) bytes;
-  parts = whole_at r bytes place (get_or bytes place 0) h refl;
-  base_fits = h.state.base_fits;
-  lawful = h.state.lawful;
-  closed = closed;
+pub ends : (r : Reading) (es : List Entry) (bytes : List ℕ) (place : ℕ) → IsReadTo r es bytes place → get_or bytes place 0 ≢ open_gate → IsWholeReading r es bytes place
+ends r es bytes place h closed = record {
+  means = inr (inr (record {
+    gate = get_or bytes place 0;
+    behind = drop (place + 1) bytes;
+    parts = whole_at r es bytes place (get_or bytes place 0) h refl;
+    base_fits = h.state.base_fits;
+    lawful = h.state.lawful;
+    closed = closed;
+  }));
+  state = h.state;
+  gate = omega (arith, ap length h.front, length-take place bytes, h.within);
 }
 
-pub breaks : (r : Reading) (bytes : List ℕ) (place : ℕ) → IsReadTo r bytes place → get_or bytes place 0 ≡ open_gate → HasNoNext r.base r.entries (drop (place + 1) bytes) → IsBrokenAt bytes place
-breaks r bytes place h opened none = record {
+pub breaks : (r : Reading) (es : List Entry) (bytes : List ℕ) (place : ℕ) → IsReadTo r es bytes place → get_or bytes place 0 ≡ open_gate → HasNoNext r.base es (drop (place + 1) bytes) → IsBrokenAt bytes place
+breaks r es bytes place h opened none = record {
   base = r.base;
-  entries = r.entries;
+  entries = es;
   rest = drop (place + 1) bytes;
-  parts = whole_at r bytes place open_gate h opened;
+  parts = whole_at r es bytes place open_gate h opened;
   base_fits = h.state.base_fits;
   lawful = h.state.lawful;
   none = none;
@@ -79,19 +82,18 @@ first_more n g d front is =
     let one_more : 1 + n ≡ suc n = omega arith in
     ap (λ (k : ℕ). take k (g ∷ d)) one_more ∙ ap (λ (t : List ℕ). g ∷ t) is
 
-pub goes_on : (r s : Reading) (bytes : List ℕ) (place next : ℕ) → IsReadTo r bytes place → get_or bytes place 0 ≡ open_gate → Advances r s (drop (place + 1) bytes) next → IsReadTo s bytes (place + (1 + next))
-goes_on r s bytes place next h opened a =
-    let front = header_of r.base ++ records_of r.entries in
+pub goes_on : (r s : Reading) (es : List Entry) (e : Entry) (bytes : List ℕ) (place next : ℕ) → IsReadTo r es bytes place → get_or bytes place 0 ≡ open_gate → Advances r s es (drop (place + 1) bytes) e next → IsReadTo s (es ++ e ∷ []) bytes (place + (1 + next))
+goes_on r s es e bytes place next h opened a =
+    let front = header_of r.base ++ records_of es in
     let d = drop (place + 1) bytes in
-    let e = a.entry in
     let whole : bytes ≡ front ++ (open_gate ∷ d) = at_gate bytes front place open_gate h.front h.within opened in
     let size : length front ≡ place = omega (arith, ap length h.front, length-take place bytes, h.within) in
     let cut : take (place + (1 + next)) bytes ≡ front ++ take (1 + next) (open_gate ∷ d) = (λ i. take (sym size i + (1 + next)) (whole i)) ∙ take-append-add front (open_gate ∷ d) (1 + next) in
     let piece : take (1 + next) (open_gate ∷ d) ≡ open_gate ∷ frame_bytes e = first_more next open_gate d (frame_bytes e) a.at_front in
-    let joined : front ++ (open_gate ∷ frame_bytes e) ≡ header_of r.base ++ records_of (r.entries ++ e ∷ []) = append_assoc (header_of r.base) (records_of r.entries) (open_gate ∷ frame_bytes e) ∙ ap (λ (t : List ℕ). header_of r.base ++ t) (sym (records_more r.entries e)) in
+    let joined : front ++ (open_gate ∷ frame_bytes e) ≡ header_of r.base ++ records_of (es ++ e ∷ []) = append_assoc (header_of r.base) (records_of es) (open_gate ∷ frame_bytes e) ∙ ap (λ (t : List ℕ). header_of r.base ++ t) (sym (records_more es e)) in
     record {
       state = a.state;
-      front = cut ∙ ap (λ (t : List ℕ). front ++ t) piece ∙ joined ∙ (λ i. header_of (sym a.base i) ++ records_of (sym a.entries i));
+      front = cut ∙ ap (λ (t : List ℕ). front ++ t) piece ∙ joined ∙ ap (λ (n : ℕ). header_of n ++ records_of (es ++ e ∷ [])) (sym a.base);
       within = omega (arith, a.within, length-drop (place + 1) bytes, h.within);
     }
 
@@ -107,8 +109,9 @@ alone bytes base h size = record {
   base_fits = h.base_fits;
 }
 
-pub header_alone : (r : Reading) (bytes : List ℕ) (base : ℕ) → Begins r base → HasHeader bytes base → length bytes ≡ 17 → IsJournal bytes r.base r.entries
-header_alone r bytes base b h size = inr (inl (subst (IsHeader bytes) (sym b.base_is) (alone bytes base h size), b.none))
-
-pub gate_at : (r : Reading) (bytes : List ℕ) (place : ℕ) → IsReadTo r bytes place → IsGateOf r place
-gate_at r bytes place h = omega (arith, ap length h.front, length-take place bytes, h.within)
+pub header_alone : (r : Reading) (bytes : List ℕ) (base : ℕ) → Begins r base → HasHeader bytes base → length bytes ≡ 17 → IsWholeReading r [] bytes 16
+header_alone r bytes base b h size = record {
+  means = inr (inl (subst (IsHeader bytes) (sym b.base_is) (alone bytes base h size), refl));
+  state = b.state;
+  gate = refl;
+}

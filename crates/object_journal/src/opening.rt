@@ -13,6 +13,7 @@ ghost use Rattle.object_journal.specs.Standing.{chosen, StandsOn, OthersStay, Is
 use crate::appending::Journal;
 use crate::entry::Entries;
 use crate::framed::CLOSED_GATE;
+use crate::gather::Gather;
 use crate::put::{CHOSEN, put_still};
 use crate::reader::{ReadFault, read_journal};
 use disk::{Disk, Failed, File};
@@ -121,11 +122,10 @@ fn read_whole<D: Disk>(alloc: Global, disk: &mut D) -> Result<Vec<u8>, OpenFault
     }
 }
 
-// The same for a file that is still.
-fn open_still<D: Disk>(alloc: Global, disk: &mut D) -> Result<(Journal, Entries), OpenFault>
+// Opens a file that is still.
+fn open_still<G: Gather, D: Disk>(alloc: Global, disk: &mut D) -> Result<(Journal, G), OpenFault>
     requires { D.tells → IsStill (D.held disk.old) (D.pending disk.old) chosen }
-    ensures stands { IfOk result (λ r. StandsOn D.tells (D.held disk.new) (D.pending disk.new) r.0 r.1) }
-    ensures means { D.tells → IfOk result (λ r. IsJournal (D.held disk.old chosen) r.0.base r.1) }
+    ensures opened { IfOk result (λ r. (entries : List Entry) × G.is_of r.1 entries × StandsOn D.tells (D.held disk.new) (D.pending disk.new) r.0 entries × (D.tells → IsJournal (D.held disk.old chosen) r.0.base entries)) }
     ensures mended { D.tells → IfOk result (λ r. IsMended (D.held disk.old chosen) r.0.base (D.held disk.new chosen)) }
     ensures refused { D.tells → (file : FileS) (at : ℕ) → IsErrOf result (NotAStore file at) → (file ≡ chosen) × IsRefusal (D.held disk.old chosen) at × (D.held disk.new ≡ D.held disk.old) }
     ensures memory { D.tells → IsErrOf result OpenFault.Memory → D.held disk.new ≡ D.held disk.old }
@@ -139,7 +139,7 @@ fn open_still<D: Disk>(alloc: Global, disk: &mut D) -> Result<(Journal, Entries)
         Ok(bytes) => bytes,
         Err(fault) => return Err(fault),
     };
-    let (reading, end) = match read_journal(alloc, bytes.as_slice()) {
+    let (reading, gathered, end) = match read_journal(alloc, bytes.as_slice()) {
         Ok(read) => read,
         Err(ReadFault::BrokenAt(at)) => return Err(OpenFault::NotAStore { file: CHOSEN, at }),
         Err(ReadFault::Memory) => return Err(OpenFault::Memory),
@@ -153,7 +153,30 @@ fn open_still<D: Disk>(alloc: Global, disk: &mut D) -> Result<(Journal, Entries)
         end: end as u64,
         ended: false,
     };
-    Ok((journal, reading.entries))
+    Ok((journal, gathered))
+}
+
+/// Opens the journal of the disk, with what its entries make. A fresh file gets its header and first gate, and the gate
+/// behind a header alone is closed; nothing else is written.
+pub fn open_journal_into<G: Gather, D: Disk>(
+    alloc: Global,
+    disk: &mut D,
+) -> Result<(Journal, G), OpenFault>
+    ensures opened { IfOk result (λ r. (entries : List Entry) × G.is_of r.1 entries × StandsOn D.tells (D.held disk.new) (D.pending disk.new) r.0 entries × (D.tells → IsJournal (D.held disk.old chosen) r.0.base entries)) }
+    ensures mended { D.tells → IfOk result (λ r. IsMended (D.held disk.old chosen) r.0.base (D.held disk.new chosen)) }
+    ensures refused { D.tells → (file : FileS) (at : ℕ) → IsErrOf result (NotAStore file at) → (file ≡ chosen) × IsRefusal (D.held disk.old chosen) at × (D.held disk.new ≡ D.held disk.old) }
+    ensures memory { D.tells → IsErrOf result OpenFault.Memory → D.held disk.new ≡ D.held disk.old }
+    ensures time { D.tells → OpensOver D.clock D.may_leave D.held D.pending disk.old disk.new }
+    ensures still { D.tells → IsStill (D.held disk.old) (D.pending disk.old) chosen → Moments D.clock D.may_leave disk.old disk.new (λ _. LeavesMeaning (D.held disk.old) (D.pending disk.old)) }
+    ensures others { D.tells → OthersStay (D.held disk.old) (D.held disk.new) (D.pending disk.old) (D.pending disk.new) }
+    ensures beside { D.beside disk.new ≡ D.beside disk.old }
+    ensures later { D.faults disk.old ≤ D.faults disk.new }
+    ensures disk { IsErrOf result OpenFault.Disk → Rose (D.faults disk.old) (D.faults disk.new) }
+{
+    match disk.sync(CHOSEN) {
+        Ok(()) => open_still(alloc, disk),
+        Err(Failed) => Err(OpenFault::Disk),
+    }
 }
 
 /// Opens the journal of the disk, with its entries, in order. A fresh file gets its header and first gate, and the gate
@@ -171,8 +194,5 @@ pub fn open_journal<D: Disk>(alloc: Global, disk: &mut D) -> Result<(Journal, En
     ensures later { D.faults disk.old ≤ D.faults disk.new }
     ensures disk { IsErrOf result OpenFault.Disk → Rose (D.faults disk.old) (D.faults disk.new) }
 {
-    match disk.sync(CHOSEN) {
-        Ok(()) => open_still(alloc, disk),
-        Err(Failed) => Err(OpenFault::Disk),
-    }
+    open_journal_into(alloc, disk)
 }

@@ -1,10 +1,10 @@
 //! Reading a journal from its bytes.
 ghost use Rattle.std.specs.Prelude.{◌≤◌, ℕ, length, IfSome, IfNone, IfOk, IsErrOf};
-ghost use Rattle.object_journal.specs.Journal.{HasNoHeader, IsGated, IsBrokenAt, IsJournal, IsRefusal, last_revision};
+ghost use Rattle.object_journal.specs.Journal.{HasNoHeader, IsBrokenAt, IsRefusal, last_revision};
 ghost use Rattle.object_journal.specs.declared.reader.ReadFault.TheVariants.{BrokenAt};
-ghost use Rattle.object_journal.specs.Readings.{HasHeader, Begins, IsState, IsGateOf};
+ghost use Rattle.object_journal.specs.Readings.{HasHeader, Begins, Gathers};
 
-use crate::entry::Entries;
+use crate::gather::Gather;
 use crate::parting::take_u64;
 use crate::reading::{Reading, RecordFault};
 use crate::rules::LAST_REVISION;
@@ -46,47 +46,55 @@ fn begun(alloc: Global, base: u64) -> Reading
     Reading {
         base,
         revision: base,
-        entries: Entries::new(),
         held: BTreeSet::new(alloc),
     }
 }
 
-fn read_behind(alloc: Global, bytes: &[u8], base: u64) -> Result<(Reading, usize), ReadFault>
+fn read_behind<G: Gather>(
+    alloc: Global,
+    bytes: &[u8],
+    base: u64,
+) -> Result<(Reading, G, usize), ReadFault>
     requires header { HasHeader bytes.now base }
     requires long { 17 ≤ length bytes.now }
-    ensures ok { IfOk result (λ r. IsGated bytes.now r.0.base r.0.entries) }
-    ensures state { IfOk result (λ r. IsState r.0) }
-    ensures gate { IfOk result (λ r. IsGateOf r.0 r.1) }
+    ensures ok { IfOk result (λ r. Gathers G.is_of r.0 r.1 bytes.now r.2) }
     ensures broken { (place : ℕ) → IsErrOf result (BrokenAt place) → IsBrokenAt bytes.now place }
 {
     let mut reading = begun(alloc, base);
+    let mut gathered = G::none(alloc);
     let mut place = 16;
     while bytes[place] == OPEN_GATE {
         let (_, behind) = bytes.split_at(place + 1);
-        match reading.advance(alloc, behind) {
-            Ok(next) => place += 1 + next,
+        let (entry, next) = match reading.advance(alloc, behind) {
+            Ok(record) => record,
             Err(RecordFault::Unlawful) => return Err(ReadFault::BrokenAt(place as u64)),
             Err(RecordFault::Memory) => return Err(ReadFault::Memory),
-        }
+        };
+        let Ok(()) = gathered.take_in(alloc, entry) else {
+            return Err(ReadFault::Memory);
+        };
+        place += 1 + next;
     }
-    Ok((reading, place))
+    Ok((reading, gathered, place))
 }
 
-/// What the bytes of a file mean and the place of the gate behind it, or the place where they break the grammar.
-pub(crate) fn read_journal(alloc: Global, bytes: &[u8]) -> Result<(Reading, usize), ReadFault>
-    ensures ok { IfOk result (λ r. IsJournal bytes.now r.0.base r.0.entries) }
-    ensures state { IfOk result (λ r. IsState r.0) }
-    ensures gate { IfOk result (λ r. IsGateOf r.0 r.1) }
+/// What the bytes of a file mean, with what their entries make and the place of the gate behind them, or the place where
+/// they break the grammar.
+pub(crate) fn read_journal<G: Gather>(
+    alloc: Global,
+    bytes: &[u8],
+) -> Result<(Reading, G, usize), ReadFault>
+    ensures ok { IfOk result (λ r. Gathers G.is_of r.0 r.1 bytes.now r.2) }
     ensures broken { (place : ℕ) → IsErrOf result (BrokenAt place) → IsRefusal bytes.now place }
 {
     if bytes.len() <= 16 {
-        return Ok((begun(alloc, 0), 16));
+        return Ok((begun(alloc, 0), G::none(alloc), 16));
     }
     let Some(base) = base_of(bytes) else {
         return Err(ReadFault::BrokenAt(0));
     };
     if bytes.len() == 17 {
-        return Ok((begun(alloc, base), 16));
+        return Ok((begun(alloc, base), G::none(alloc), 16));
     }
     read_behind(alloc, bytes, base)
 }

@@ -1,8 +1,9 @@
 //! What was read of a journal.
-ghost use Rattle.std.specs.Prelude.{IfOk, IsErrOf};
-ghost use Rattle.object_journal.specs.Journal.{HasNoNext};
+ghost use Rattle.std.specs.Prelude.{◌≤◌, List, IfOk, IsErrOf};
+ghost use Rattle.object_journal.specs.declared.entry.Entry.{Entry as EntryS};
+ghost use Rattle.object_journal.specs.Journal.{HasNoNext, last_revision};
 
-use crate::entry::{Entries, Entry};
+use crate::entry::Entry;
 use crate::held::{are_few, take_in};
 use crate::key::Key;
 use crate::parting::take_record;
@@ -17,13 +18,12 @@ pub(crate) enum RecordFault {
     Memory,
 }
 
-/// What was read up to a gate.
+/// What was read up to a gate, but for the entries.
 #[derive(Debug, Drop)]
 pub(crate) struct Reading {
     pub base: u64,
     /// The greatest of the base and the revisions.
     pub revision: u64,
-    pub entries: Entries,
     pub held: BTreeSet<Key>,
 }
 
@@ -33,9 +33,10 @@ impl Reading {
     // The entry of the record at the front, which may follow but for the number of keys, and the place of the gate behind
     // it.
     fn next(&self, alloc: Global, bytes: &[u8]) -> Result<(Entry, usize), RecordFault>
-        requires { IsState self.now }
-        ensures ok { IfOk result (λ r. IsNextRecord self.now bytes.now r.0 r.1) }
-        ensures unlawful { IsErrOf result RecordFault.Unlawful → HasNoNext self.now.base self.now.entries bytes.now }
+        requires base { self.now.base ≤ last_revision }
+        requires revision { self.now.revision ≤ last_revision }
+        ensures ok { IfOk result (λ r. (entries : List EntryS) → IsState self.now entries → IsNextRecord self.now entries bytes.now r.0 r.1) }
+        ensures unlawful { IsErrOf result RecordFault.Unlawful → (entries : List EntryS) → IsState self.now entries → HasNoNext self.now.base entries bytes.now }
     {
         let Some((part, size)) = take_record(bytes) else {
             return Err(RecordFault::Unlawful);
@@ -52,11 +53,16 @@ impl Reading {
         Ok((entry, size))
     }
 
-    // Takes in the record at the front, and answers the place of the gate behind it.
-    pub(crate) fn advance(&mut self, alloc: Global, bytes: &[u8]) -> Result<usize, RecordFault>
-        requires { IsState self.old }
-        ensures ok { IfOk result (λ place. Advances self.old self.new bytes.now place) }
-        ensures unlawful { IsErrOf result RecordFault.Unlawful → HasNoNext self.old.base self.old.entries bytes.now }
+    // Takes in the record at the front, and answers its entry and the place of the gate behind it.
+    pub(crate) fn advance(
+        &mut self,
+        alloc: Global,
+        bytes: &[u8],
+    ) -> Result<(Entry, usize), RecordFault>
+        requires base { self.old.base ≤ last_revision }
+        requires revision { self.old.revision ≤ last_revision }
+        ensures ok { IfOk result (λ r. (entries : List EntryS) → IsState self.old entries → Advances self.old self.new entries bytes.now r.0 r.1) }
+        ensures unlawful { IsErrOf result RecordFault.Unlawful → (entries : List EntryS) → IsState self.old entries → HasNoNext self.old.base entries bytes.now }
     {
         let (entry, place) = match self.next(alloc, bytes) {
             Ok(next) => next,
@@ -70,9 +76,6 @@ impl Reading {
             return Err(RecordFault::Unlawful);
         }
         self.revision = self.revision.max(entry.revision);
-        let Ok(()) = self.entries.push(alloc, entry) else {
-            return Err(RecordFault::Memory);
-        };
-        Ok(place)
+        Ok((entry, place))
     }
 }

@@ -1,32 +1,16 @@
-use Rattle.std.proofs.Common.{ℕ, subst, ◌∙◌}
-use Rattle.disk.specs.Images.{Images}
-use Rattle.object_journal.specs.Journal.{IsRefusal}
-use Rattle.object_journal.specs.Standing.{chosen}
-use Rattle.object_journal.proofs.OpenLemmas.{opens, opens_not, opens_still, still_first}
+use Rattle.std.proofs.Common.{sym, subst}
+use Rattle.std.proofs.lemmas.Result.{IfOk-weaker}
+use Rattle.object_journal.specs.Journal.{IsJournal}
+use Rattle.object_journal.specs.Standing.{chosen, StandsOn}
 use Rattle.object_journal.proofs.opening.open_journal.Goals as goal
 
-pub returns-in-Ok-clause-refused : goal.returns-in-Ok-clause-refused
-returns-in-Ok-clause-refused g c told file at is =
-    let r = c.open_still.ensures.refused told file at is in
-    let held = c.in-Ok.ensures.held told in
-    (r.0, subst (λ (h : Images). IsRefusal (h chosen) at) held r.1, r.2 ∙ held)
-
-pub returns-in-Ok-clause-time : goal.returns-in-Ok-clause-time
-returns-in-Ok-clause-time g c told =
+pub returns-clause-stands : goal.returns-clause-stands
+returns-clause-stands g c =
     let d = g.D.Disk in
-    opens d.clock d.may_leave d.held d.pending c.args.disk.now c.sync.new.self c.open_still.new.disk (c.sync.ensures.held told) (c.sync.ensures.others told) (c.sync.ensures.time told) (c.open_still.ensures.time told)
+    let now = c.open_journal_into.new.disk in
+    IfOk-weaker c.open_journal_into.result _ _ (λ r o. subst (StandsOn d.tells (d.held now) (d.pending now) r.0) (sym o.1) o.2) c.open_journal_into.ensures.opened
 
-pub returns-in-Ok-clause-still : goal.returns-in-Ok-clause-still
-returns-in-Ok-clause-still g c told still =
+pub returns-clause-means : goal.returns-clause-means
+returns-clause-means g c told =
     let d = g.D.Disk in
-    opens_still d.clock d.may_leave d.held d.pending c.args.disk.now c.sync.new.self c.open_still.new.disk still (c.sync.ensures.held told) (c.sync.ensures.others told) (c.sync.ensures.time told) (c.open_still.ensures.time told)
-
-pub returns-in-Err-clause-time : goal.returns-in-Err-clause-time
-returns-in-Err-clause-time g c told =
-    let d = g.D.Disk in
-    opens_not d.clock d.may_leave d.held d.pending c.args.disk.now c.sync.new.self (c.sync.ensures.time told)
-
-pub returns-in-Err-clause-still : goal.returns-in-Err-clause-still
-returns-in-Err-clause-still g c told still =
-    let d = g.D.Disk in
-    still_first d.clock d.may_leave d.held d.pending c.args.disk.now c.sync.new.self still (c.sync.ensures.time told)
+    IfOk-weaker c.open_journal_into.result _ _ (λ r o. subst (IsJournal (d.held c.args.disk.now chosen) r.0.base) (sym o.1) (o.3 told)) c.open_journal_into.ensures.opened

@@ -2,7 +2,7 @@ use Rattle.std.proofs.Common.{ℕ, List, length, refl, sym, ap, subst, ◌∙◌
 use Rattle.std.specs.Prelude.{Err}
 use Rattle.disk.specs.Images.{Images, end_of_lengths}
 use Rattle.object_journal.specs.Journal.{IsJournal, IsRefusal}
-use Rattle.object_journal.specs.Standing.{chosen}
+use Rattle.object_journal.specs.Standing.{chosen, IsMended}
 use Rattle.object_journal.proofs.OpenLemmas.{read_on_moments, end_short, mended_gated, one_refusal}
 use Rattle.object_journal.proofs.opening.open_still.Goals as goal
 
@@ -16,34 +16,52 @@ pub returns-in_default-clause-time : goal.returns-in_default-clause-time
 returns-in_default-clause-time g c told =
     let d = g.D.Disk in
     let same = c.in-Ok.ensures.same told in
-    let r = c.in-Ok-read_journal.read.0 in
-    let read : IsJournal (d.held c.read_whole.new.disk chosen) r.base r.entries = subst (λ (t : List ℕ). IsJournal t r.base r.entries) (c.as_slice.ensures.value ∙ c.in-Ok.ensures.bytes told ∙ ap (λ (h : Images). h chosen) (sym same.held)) c.in-Ok-read_journal.ensures.ok in
-    read_on_moments d.clock d.may_leave d.held d.pending c.args.disk.now c.read_whole.new.disk c.mend.new.disk same c.in-Ok.ensures.clock (c.mend.ensures.time told r.base r.entries read)
+    let base = c.in-Ok-read_journal.read.0.base in
+    let all = c.in-Ok-read_journal.ensures.ok in
+    let read : IsJournal (d.held c.read_whole.new.disk chosen) base all.entries = subst (λ (t : List ℕ). IsJournal t base all.entries) (c.as_slice.ensures.value ∙ c.in-Ok.ensures.bytes told ∙ ap (λ (h : Images). h chosen) (sym same.held)) all.whole.means in
+    read_on_moments d.clock d.may_leave d.held d.pending c.args.disk.now c.read_whole.new.disk c.mend.new.disk same c.in-Ok.ensures.clock (c.mend.ensures.time told base all.entries read)
 
 pub returns-clause-time : goal.returns-clause-time
 returns-clause-time g c told =
     let d = g.D.Disk in
     let same = c.in-Ok.ensures.same told in
-    let r = c.in-Ok-read_journal.read.0 in
-    let read : IsJournal (d.held c.read_whole.new.disk chosen) r.base r.entries = subst (λ (t : List ℕ). IsJournal t r.base r.entries) (c.as_slice.ensures.value ∙ c.in-Ok.ensures.bytes told ∙ ap (λ (h : Images). h chosen) (sym same.held)) c.in-Ok-read_journal.ensures.ok in
-    read_on_moments d.clock d.may_leave d.held d.pending c.args.disk.now c.read_whole.new.disk c.mend.new.disk same c.in-Ok.ensures.clock (c.mend.ensures.time told r.base r.entries read)
+    let base = c.in-Ok-read_journal.read.0.base in
+    let all = c.in-Ok-read_journal.ensures.ok in
+    let read : IsJournal (d.held c.read_whole.new.disk chosen) base all.entries = subst (λ (t : List ℕ). IsJournal t base all.entries) (c.as_slice.ensures.value ∙ c.in-Ok.ensures.bytes told ∙ ap (λ (h : Images). h chosen) (sym same.held)) all.whole.means in
+    read_on_moments d.clock d.may_leave d.held d.pending c.args.disk.now c.read_whole.new.disk c.mend.new.disk same c.in-Ok.ensures.clock (c.mend.ensures.time told base all.entries read)
 
-pub returns-clause-stands : goal.returns-clause-stands
-returns-clause-stands g c =
+pub returns-clause-opened : goal.returns-clause-opened
+returns-clause-opened g c =
     let d = g.D.Disk in
-    let r = c.in-Ok-read_journal.read.0 in
-    let state = c.in-Ok-read_journal.ensures.state in
-    let short : length c.as_slice.result.now < end_of_lengths = omega (arith, c.in-Ok.ensures.short, ap length c.as_slice.ensures.value) in
-    record {
-      going = refl;
-      base_fits = state.base_fits;
-      lawful = state.lawful;
-      revision = state.revision;
-      end_is = c.in-Ok-read_journal.ensures.gate;
-      short = end_short c.as_slice.result.now r.base r.entries c.in-Ok-read_journal.read.1 c.in-Ok-read_journal.ensures.ok c.in-Ok-read_journal.ensures.gate short;
-      still = λ told. c.in-Ok-mend.ensures.still told;
-      gated = λ told.
-          let same = c.in-Ok.ensures.same told in
-          let read : IsJournal (d.held c.read_whole.new.disk chosen) r.base r.entries = subst (λ (t : List ℕ). IsJournal t r.base r.entries) (c.as_slice.ensures.value ∙ c.in-Ok.ensures.bytes told ∙ ap (λ (h : Images). h chosen) (sym same.held)) c.in-Ok-read_journal.ensures.ok in
-          mended_gated (d.held c.read_whole.new.disk chosen) (d.held c.mend.new.disk chosen) r.base r.entries read state.base_fits state.lawful (c.in-Ok-mend.ensures.mended told r.base r.entries read);
-    }
+    let base = c.in-Ok-read_journal.read.0.base in
+    let place = c.in-Ok-read_journal.read.2 in
+    let all = c.in-Ok-read_journal.ensures.ok in
+    let entries = all.entries in
+    let whole = all.whole in
+    let short : length c.as_slice.result.now < end_of_lengths = omega (arith, c.in-Ok.ensures.short, ap length c.as_slice.ensures.value) in (
+      entries,
+      all.made,
+      record {
+        going = refl;
+        base_fits = whole.state.base_fits;
+        lawful = whole.state.lawful;
+        revision = whole.state.revision;
+        end_is = whole.gate;
+        short = end_short c.as_slice.result.now base entries place whole.means whole.gate short;
+        still = λ told. c.in-Ok-mend.ensures.still told;
+        gated = λ told.
+            let same = c.in-Ok.ensures.same told in
+            let read : IsJournal (d.held c.read_whole.new.disk chosen) base entries = subst (λ (t : List ℕ). IsJournal t base entries) (c.as_slice.ensures.value ∙ c.in-Ok.ensures.bytes told ∙ ap (λ (h : Images). h chosen) (sym same.held)) whole.means in
+            mended_gated (d.held c.read_whole.new.disk chosen) (d.held c.mend.new.disk chosen) base entries read whole.state.base_fits whole.state.lawful (c.in-Ok-mend.ensures.mended told base entries read);
+      },
+      (λ told. subst (λ (t : List ℕ). IsJournal t base entries) (c.as_slice.ensures.value ∙ c.in-Ok.ensures.bytes told) whole.means),
+    )
+
+pub returns-clause-mended : goal.returns-clause-mended
+returns-clause-mended g c told =
+    let d = g.D.Disk in
+    let same = c.in-Ok.ensures.same told in
+    let base = c.in-Ok-read_journal.read.0.base in
+    let all = c.in-Ok-read_journal.ensures.ok in
+    let read : IsJournal (d.held c.read_whole.new.disk chosen) base all.entries = subst (λ (t : List ℕ). IsJournal t base all.entries) (c.as_slice.ensures.value ∙ c.in-Ok.ensures.bytes told ∙ ap (λ (h : Images). h chosen) (sym same.held)) all.whole.means in
+    subst (λ (h : Images). IsMended (h chosen) base (d.held c.mend.new.disk chosen)) same.held (c.in-Ok-mend.ensures.mended told base all.entries read)
