@@ -11,10 +11,10 @@ ghost use Rattle.object_journal.specs.Standing.{chosen, OthersStay, IsMended, Op
 ghost use Rattle.object_store.specs.Records.{RecoversTo};
 ghost use Rattle.object_store.specs.Stores.{HasEntries, MeanOne, LeavesSame};
 
-use crate::recovered::items_of;
+use crate::recovered::Recovered;
 use crate::store::Store;
 use disk::Disk;
-use object_journal::{OpenFault, open_journal};
+use object_journal::{OpenFault, open_journal_into};
 use std::alloc::Global;
 
 /// Opens the store of the disk: the records and the revision that its journal leaves. `NotAStore` tells where the journal
@@ -35,11 +35,11 @@ pub fn open_store<D: Disk>(alloc: Global, disk: &mut D) -> Result<Store, OpenFau
     ensures later { D.faults disk.old ≤ D.faults disk.new }
     ensures disk { IsErrOf result OpenFault.Disk → Rose (D.faults disk.old) (D.faults disk.new) }
 {
-    let (journal, entries) = match open_journal(alloc, disk) {
+    let (journal, recovered) = match open_journal_into::<Recovered, D>(alloc, disk) {
         Ok(opened) => opened,
         Err(fault) => return Err(fault),
     };
-    match items_of(alloc, entries) {
+    match recovered.listed(alloc) {
         Ok(items) => Ok(Store {
             items,
             journal,

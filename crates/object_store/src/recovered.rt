@@ -1,7 +1,7 @@
 //! The records that entries leave.
-ghost use Rattle.std.specs.Prelude.{◌≡◌, [], ◌∷◌, ◌++◌, List, map, IfOk, OnOk};
+ghost use Rattle.std.specs.Prelude.{◌≡◌, List, map, IfOk};
 ghost use Rattle.std.specs.BTreeMap.{IsOrdered};
-ghost use Rattle.object_journal.specs.declared.entry.Entry.{Entry};
+ghost use Rattle.object_journal.specs.declared.entry.Entry.{Entry as EntryS};
 ghost use Rattle.object_journal.specs.KeyOrder.{by_key};
 ghost use Rattle.object_store.specs.Records.{AreRecords};
 ghost use Rattle.object_store.specs.Left.{AreLeft, item_at};
@@ -9,7 +9,7 @@ ghost use Rattle.object_store.specs.Left.{AreLeft, item_at};
 use crate::item::Item;
 use basis::Memory;
 use minor_version::Blob;
-use object_journal::{Change, Entries, Entry, Key};
+use object_journal::{Change, Entry, Gather, Key};
 use std::alloc::Global;
 use std::collections::BTreeMap;
 
@@ -21,29 +21,51 @@ pub(crate) struct Held {
     pub body: Blob,
 }
 
-// Takes one more entry in.
-fn take_in(held: &mut BTreeMap<Key, Held>, entry: Entry) -> Result<(), Memory>
-    ensures { OnOk result ((entries : List Entry) → AreLeft held.old entries → AreLeft held.new (entries ++ entry ∷ [])) }
-{
-    let Entry {
-        key,
-        revision,
-        change,
-    } = entry;
-    match change {
-        Change::Put { created, body } => {
-            let put = Held {
-                revision,
-                created,
-                body,
-            };
-            held.insert(key, put)?;
-        }
-        Change::Removal => {
-            held.remove(&key);
+/// What is held of each key.
+#[derive(Debug, Drop)]
+pub(crate) struct Recovered {
+    held: BTreeMap<Key, Held>,
+}
+
+impl Gather for Recovered {
+    ghost is_of = { λ recovered entries. AreLeft recovered.held entries };
+
+    fn none(alloc: Global) -> Self {
+        Recovered {
+            held: BTreeMap::new(alloc),
         }
     }
-    Ok(())
+
+    fn take_in(&mut self, _alloc: Global, entry: Entry) -> Result<(), Memory> {
+        let Entry {
+            key,
+            revision,
+            change,
+        } = entry;
+        match change {
+            Change::Put { created, body } => {
+                let put = Held {
+                    revision,
+                    created,
+                    body,
+                };
+                self.held.insert(key, put)?;
+            }
+            Change::Removal => {
+                self.held.remove(&key);
+            }
+        }
+        Ok(())
+    }
+}
+
+impl Recovered {
+    /// The records that the entries leave, in key order.
+    pub(crate) fn listed(self, alloc: Global) -> Result<Vec<Item>, Memory>
+        ensures { IfOk result (λ v. (entries : List EntryS) → AreLeft self.held entries → AreRecords entries v.items) }
+    {
+        listed(alloc, self.held)
+    }
 }
 
 fn listed(alloc: Global, held: BTreeMap<Key, Held>) -> Result<Vec<Item>, Memory>
@@ -57,18 +79,4 @@ fn listed(alloc: Global, held: BTreeMap<Key, Held>) -> Result<Vec<Item>, Memory>
         body: held.body,
     });
     Ok(items.collect(alloc)?)
-}
-
-/// The records that the entries leave, in key order.
-pub(crate) fn items_of(alloc: Global, entries: Entries) -> Result<Vec<Item>, Memory>
-    ensures { IfOk result (λ v. AreRecords entries v.items) }
-{
-    let mut held = BTreeMap::new(alloc);
-    for entry in entries.into_vec(alloc) {
-        match take_in(&mut held, entry) {
-            Ok(()) => {}
-            Err(memory) => return Err(memory),
-        }
-    }
-    listed(alloc, held)
 }

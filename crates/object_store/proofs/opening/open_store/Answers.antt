@@ -6,24 +6,36 @@ use Rattle.object_store.proofs.OpenLemmas.{same_moments}
 use Rattle.object_store.proofs.opening.open_store.Goals as goal
 
 pub returns-in-Err-clause-still : goal.returns-in-Err-clause-still
-returns-in-Err-clause-still g c told still = let d = g.D.Disk in same_moments d.clock d.may_leave d.held d.pending c.args.disk.now c.open_journal.new.disk (c.open_journal.ensures.still told still)
+returns-in-Err-clause-still g c told still = let d = g.D.Disk in same_moments d.clock d.may_leave d.held d.pending c.args.disk.now c.open_journal_into.new.disk (c.open_journal_into.ensures.still told still)
 
-pub returns-in-Ok-items_of-clause-still : goal.returns-in-Ok-items_of-clause-still
-returns-in-Ok-items_of-clause-still g c told still = let d = g.D.Disk in same_moments d.clock d.may_leave d.held d.pending c.args.disk.now c.open_journal.new.disk (c.open_journal.ensures.still told still)
+pub returns-in-Ok-listed-clause-still : goal.returns-in-Ok-listed-clause-still
+returns-in-Ok-listed-clause-still g c told still = let d = g.D.Disk in same_moments d.clock d.may_leave d.held d.pending c.args.disk.now c.open_journal_into.new.disk (c.open_journal_into.ensures.still told still)
 
-pub returns-in-Err-items_of-clause-still : goal.returns-in-Err-items_of-clause-still
-returns-in-Err-items_of-clause-still g c told still = let d = g.D.Disk in same_moments d.clock d.may_leave d.held d.pending c.args.disk.now c.open_journal.new.disk (c.open_journal.ensures.still told still)
+pub returns-in-Err-listed-clause-still : goal.returns-in-Err-listed-clause-still
+returns-in-Err-listed-clause-still g c told still = let d = g.D.Disk in same_moments d.clock d.may_leave d.held d.pending c.args.disk.now c.open_journal_into.new.disk (c.open_journal_into.ensures.still told still)
 
 pub returns-in-Err-clause-refused : goal.returns-in-Err-clause-refused
 returns-in-Err-clause-refused g c told file at is =
     let there : c.in-Err.fault ≡ NotAStore file at = cc in
     c.in-Err.ensures.refused told file at (ap Err there)
 
+pub returns-in-Ok-listed-clause-recovered : goal.returns-in-Ok-listed-clause-recovered
+returns-in-Ok-listed-clause-recovered g c told =
+    let o = c.in-Ok.ensures.opened in
+    record {
+      base = c.in-Ok.opened.0.base;
+      entries = o.0;
+      means = o.3 told;
+      records = c.in-Ok-listed.ensures o.0 o.1;
+      revision_is = o.2.revision;
+    }
+
 pub invariant_of-result : goal.invariant_of-result
 invariant_of-result g c =
-    let (journal, entries) = c.in-Ok.opened in
+    let o = c.in-Ok.ensures.opened in
+    let records = c.in-Ok-listed.ensures o.0 o.1 in
     record {
-      ordered = c.in-Ok-items_of.ensures.ordered;
-      texts = texts_of_records journal.base entries c.in-Ok-items_of.items.items c.in-Ok.ensures.stands.lawful c.in-Ok-items_of.ensures;
+      ordered = records.ordered;
+      texts = texts_of_records c.in-Ok.opened.0.base o.0 c.in-Ok-listed.items.items o.2.lawful records;
       room = λ some. absurd (omega (arith, some));
     }
