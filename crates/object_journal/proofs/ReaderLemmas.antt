@@ -11,7 +11,7 @@ use Rattle.object_journal.specs.declared.entry.Entry.{Entry}
 use Rattle.object_journal.specs.declared.reading.Reading.{Reading}
 use Rattle.object_journal.specs.Payload.{frame_bytes}
 use Rattle.object_journal.specs.KeyOrder.{by_key}
-use Rattle.object_journal.specs.Journal.{AreLawful, HasNoNext, IsHeader, IsGated, IsJournal, IsBrokenAt, last_revision, revision_after, open_gate, header_of, records_of}
+use Rattle.object_journal.specs.Journal.{HasNoNext, IsHeader, IsBrokenAt, last_revision, open_gate, header_of, records_of}
 use Rattle.object_journal.specs.HeldKeys.{AreHeld}
 use Rattle.object_journal.specs.Readings.{Begins, Advances, HasHeader, IsReadTo, IsWholeReading}
 use Rattle.object_journal.specs.EntryLaws.{not_empty}
