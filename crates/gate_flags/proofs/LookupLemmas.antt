@@ -1,5 +1,5 @@
 -- What is looked up by name, with one entry more.
-use Rattle.std.proofs.Common.{◌≡◌, ◌↔◌, inl, inr, ℕ, ◌+◌, ◌<◌, Bool, Any, IsTrue, true, false, List, [], ◌∷◌, ◌++◌, All, length, take, get_or, Some, IfSome, sym, ◌∙◌, ap, subst}
+use Rattle.std.proofs.Common.{◌≡◌, ◌↔◌, inl, inr, ℕ, ◌+◌, ◌<◌, Bool, Any, true, false, List, [], ◌∷◌, ◌++◌, All, length, take, get_or, Option, Some, None, IfSome, refl, sym, ◌∙◌, ap, subst}
 use Rattle.std.specs.Ordering.{nat_cmp}
 use Rattle.std.specs.Option.{option_map_or}
 use Rattle.std.specs.Cmp.Lexicographic.{slice_cmp}
@@ -12,9 +12,7 @@ use Rattle.gate_spec.specs.Gates.{RisesInDate, IsSpecAt}
 use Rattle.gate_spec.proofs.GateLemmas.{spec_at_read, spec_at_passed}
 use Rattle.gate_flags.specs.Lookups.{spec_in, KnowsGates}
 use Rattle.gate_flags.specs.declared.known.Known.{Known}
-use Rattle.gate_flags.specs.declared.values.GateRow.{GateRow}
-use Rattle.gate_flags.specs.declared.values.RemovedGate.{RemovedGate}
-use Rattle.gate_flags.specs.Values.{Gates, HasValue}
+use Rattle.gate_flags.specs.Values.{Gates, AreInOrder, HasValue}
 use Rattle.flag_text.proofs.LastLemmas.{at_same, at_itself}
 
 -- one more entry of the history
@@ -58,12 +56,24 @@ known_at xs k x e m n gate key s up below is known named read same step order up
 pub knows_at : (entries : List GateEntry) (e : ℕ) (known : BTreeMap (List ℕ) Known) (name key : List ℕ) (s : SpecAt) → KnowsGates entries e known → key ≡ name → s ≡ spec_in known key → IsSpecAt entries name e s
 knows_at entries e known name key s knows same read = subst (λ t. IsSpecAt entries name e t) (sym (read ∙ ap (spec_in known) same)) (knows.specs name)
 
--- where no row has the value true, a removed gate has it
-pub on_where_removed : (gates : Gates) (rows : List GateRow) (removed : List RemovedGate) (name : List ℕ) (r s : Bool) → rows ≡ gates.rows → removed ≡ gates.removed → (IsTrue r ↔ Any (λ x. (x.name ≡ name) × (x.value ≡ true)) rows) → r ≡ false → (IsTrue s ↔ Any (λ x. (x.name ≡ name) × (x.value ≡ true)) removed) → IsTrue s ↔ HasValue gates name true
-on_where_removed gates rows removed name r s same_rows same_removed of_rows off of_removed = (
-  λ t. inr (subst (Any (λ x. (x.name ≡ name) × (x.value ≡ true))) same_removed (of_removed.0 t)),
+-- the value that a row has, where there is one
+pub value_of_known : (gates : Gates) (name : List ℕ) (value : Bool) → AreInOrder gates → ((v : Bool) → Some value ≡ Some v ↔ Any (λ r. (r.name ≡ name) × (r.value ≡ v)) gates.rows) → (v : Bool) → Some value ≡ Some v ↔ HasValue gates name v
+value_of_known gates name value order known v = (
+  λ same. inl ((known v).0 same),
   λ has. elim has [
-    | inl row ↦ absurd (let on : r ≡ true = of_rows.1 (subst (Any (λ x. (x.name ≡ name) × (x.value ≡ true))) (sym same_rows) row) in let clash : true ≡ false = sym on ∙ off in cc)
-    | inr gone ↦ of_removed.1 (subst (Any (λ x. (x.name ≡ name) × (x.value ≡ true))) (sym same_removed) gone)
+    | inl row ↦ (known v).1 row
+    | inr gone ↦
+        let row = (known value).0 refl in
+        absurd (order.apart row.1 gone.1 (row.0, row.2, row.3) (gone.0, gone.2, gone.3) (row.4.0 ∙ sym gone.4.0))
+  ],
+)
+
+-- the value that a removed gate has, where no row has the name
+pub value_of_gone : (gates : Gates) (name : List ℕ) (o : Option Bool) → ((v : Bool) → None ≡ Some v ↔ Any (λ r. (r.name ≡ name) × (r.value ≡ v)) gates.rows) → ((v : Bool) → o ≡ Some v ↔ Any (λ r. (r.name ≡ name) × (r.value ≡ v)) gates.removed) → (v : Bool) → o ≡ Some v ↔ HasValue gates name v
+value_of_gone gates name o unknown gone v = (
+  λ same. inr ((gone v).0 same),
+  λ has. elim has [
+    | inl row ↦ absurd (let clash : None ≡ Some v = (unknown v).1 row in cc)
+    | inr there ↦ (gone v).1 there
   ],
 )

@@ -12,6 +12,7 @@ use Rattle.std.proofs.lemmas.List.Elements.{Contains-append_left, Contains-appen
 use Rattle.std.proofs.lemmas.Map.Lookups.{exact_bytes}
 use Rattle.std.proofs.lemmas.Map.Views.{btree_map_get_iff}
 use Rattle.std.proofs.lemmas.Map.Made.{Contains-from_values_of, Contains-values_of}
+use Rattle.basis.proofs.OrderLemmas.{one_named}
 use Rattle.gate_spec.specs.declared.entry.GateEntry.{GateEntry}
 use Rattle.gate_spec.specs.declared.entry.Stage.{Stage}
 use Rattle.gate_spec.specs.declared.entry.Stage.TheVariants.{Alpha, Beta, Ga, Deprecated}
@@ -181,10 +182,24 @@ module _ (entries : List GateEntry) (e : ℕ) (known : BTreeMap (List ℕ) Known
         (ap (λ n. removed_of n k.spec) known_to.2 ∙ ap (removed_of gate.name) known_to.3),
   )
 
+  -- one gate isn't both known and removed
+  known_or_removed : (m : BTreeMap (List ℕ) (Option Bool)) (row : GateRow) (gate : RemovedGate) → Contains (rows_of m known) row → Contains (removed_gates_of known) gate → row.name ≡ gate.name → ⊥
+  known_or_removed m row gate h g same =
+      let found = from_filter_map (λ k. row_of m k.name.now k.spec) (values known) row h in
+      let gone = from_filter_map (λ k. removed_of k.name.now k.spec) (values known) gate g in
+      let k : Known = found.0 in
+      let l : Known = gone.0 in
+      let is = row_from m k.name.now k.spec row found.2 in
+      let was = removed_from l.name.now l.spec gate gone.2 in
+      let one : k ≡ l = one_named (λ (x : Known). x.name.now) (values known) k l names_rise found.1 gone.1 (sym is.1 ∙ same ∙ was.1) in
+      let clash : Found row.stage row.default row.locked ≡ Removed gate.value = sym is.0 ∙ ap (λ (x : Known). x.spec) one ∙ was.0 in
+      cc
+
   pub in_order : (m : BTreeMap (List ℕ) (Option Bool)) → AreInOrder (record { rows = rows_of m known; removed = removed_gates_of known })
   in_order m = record {
     rows = filter_map_rises (slice_cmp nat_cmp) (λ k. row_of m k.name.now k.spec) (λ r. r.name) (λ (k : Known). k.name.now) (λ k r h. (row_from m k.name.now k.spec r h).1) (values known) names_rise;
     removed = filter_map_rises (slice_cmp nat_cmp) (λ k. removed_of k.name.now k.spec) (λ r. r.name) (λ (k : Known). k.name.now) (λ k r h. (removed_from k.name.now k.spec r h).1) (values known) names_rise;
+    apart = known_or_removed m;
   }
 
   pub values_are : (ps : List FlagPiece) (m : BTreeMap (List ℕ) (Option Bool)) (gates : Gates) → RisesInDate entries → HasSaid Go ps m → gates.rows ≡ rows_of m known → gates.removed ≡ removed_gates_of known → AreGateValues (cutoff entries e) ps gates

@@ -1,12 +1,12 @@
 -- A binary search by name among what rises by name.
-use Rattle.std.proofs.Common.{◌≡◌, ◌↔◌, Contains, ◌⊎◌, inl, inr, ℕ, ◌+◌, ◌<◌, Ordering, Less, Equal, Greater, List, [], ◌∷◌, All, Any, Bool, map, get_or, Ok, Err, refl, sym, ◌∙◌, ap, arith}
+use Rattle.std.proofs.Common.{◌≡◌, ◌↔◌, inl, inr, ℕ, ◌+◌, ◌<◌, Ordering, Less, Equal, Greater, List, [], ◌∷◌, All, Any, Bool, length, map, get_or, Some, None, Ok, Err, sym, ◌∙◌, ap, arith}
 use Rattle.std.specs.Ordering.{nat_cmp, is_lt, ordering_reverse}
 use Rattle.std.specs.List.{AllPairs, AllByRecursion}
 use Rattle.std.specs.List.Sorted.{IsStrictlySortedBy, IsSortedBy, IsBinarySearchResult}
 use Rattle.std.specs.Cmp.Lexicographic.{slice_cmp}
 use Rattle.std.proofs.lemmas.Bool.{cases_lt}
 use Rattle.std.proofs.lemmas.Cmp.{nat_list_cmp_total, tied_itself}
-use Rattle.std.proofs.lemmas.List.Elements.{All-nil, All-cons, All-contains, Contains-append_left, Contains-append_right, Contains-append_cases, Contains-push, Contains-push_cases}
+use Rattle.std.proofs.lemmas.List.Elements.{All-nil, All-cons}
 use Rattle.std.proofs.lemmas.List.Kept.{AllPairs-cons}
 use Rattle.std.proofs.lemmas.List.Sorted.{searchable_from_sorted}
 use Rattle.std.proofs.lemmas.Map.Lookups.{exact_bytes}
@@ -31,7 +31,7 @@ module _ {X : Type 0} (name : X → List ℕ) where
   not_named : (key : List ℕ) (x : X) (o : Ordering) → slice_cmp nat_cmp (name x) key ≡ o → (o ≡ Equal → ⊥) → name x ≡ key → ⊥
   not_named key x o is apart same = apart (sym is ∙ ap (λ n. slice_cmp nat_cmp n key) same ∙ tied_itself nat_list_cmp_total key)
 
-  pub found_by_name : (key : List ℕ) (xs : List X) (at : ℕ) (x : X) → IsBinarySearchResult (λ y. slice_cmp nat_cmp (name y) key) xs (Ok at) → x ≡ get_or xs at x → name x ≡ key
+  found_by_name : (key : List ℕ) (xs : List X) (at : ℕ) (x : X) → IsBinarySearchResult (λ y. slice_cmp nat_cmp (name y) key) xs (Ok at) → x ≡ get_or xs at x → name x ≡ key
   found_by_name key xs at x found is = ap name is ∙ exact_bytes (name (get_or xs at x)) key (found x)
 
   pub none_by_name : (key : List ℕ) (xs : List X) (at : ℕ) → IsStrictlySortedBy (slice_cmp nat_cmp) (map name xs) → IsBinarySearchResult (λ y. slice_cmp nat_cmp (name y) key) xs (Err at) → All (λ x. name x ≡ key → ⊥) xs
@@ -42,10 +42,14 @@ module _ {X : Type 0} (name : X → List ℕ) where
         | inr after ↦ not_named key (get_or xs k d) Greater (parts.1 k d after below) (λ e. cc)
       ]
 
-  -- where a value is found at the name, it is the only one
-  pub only_value : (value : X → Bool) (xs : List X) (key : List ℕ) (v w : Bool) → IsStrictlySortedBy (slice_cmp nat_cmp) (map name xs) → Any (λ x. (name x ≡ key) × (value x ≡ v)) xs → Any (λ x. (name x ≡ key) × (value x ≡ w)) xs → v ≡ w
-  only_value value xs key v w rise one other =
-      sym one.4.1 ∙ ap value (one_named name xs one.1 other.1 rise (one.0, one.2, one.3) (other.0, other.2, other.3) (one.4.0 ∙ sym other.4.0)) ∙ other.4.1
+  -- where one is found at the name, its value is the only one of that name
+  pub value_found : (value : X → Bool) (xs : List X) (key : List ℕ) (at : ℕ) (x : X) → IsStrictlySortedBy (slice_cmp nat_cmp) (map name xs) → at < length xs → x ≡ get_or xs at x → IsBinarySearchResult (λ y. slice_cmp nat_cmp (name y) key) xs (Ok at)
+      → (v : Bool) → Some (value (get_or xs at x)) ≡ Some v ↔ Any (λ y. (name y ≡ key) × (value y ≡ v)) xs
+  value_found value xs key at x rise below is found v =
+      let named : name x ≡ key = found_by_name key xs at x found is in (
+        λ same. let read : value (get_or xs at x) ≡ v = cc in (at, x, below, sym is, (named, ap value is ∙ read)),
+        λ any. ap (λ y. Some (value y)) (sym is ∙ one_named name xs x any.1 rise (at, below, sym is) (any.0, any.2, any.3) (named ∙ sym any.4.0)) ∙ ap Some any.4.1,
+      )
 
-  pub none_valued : (value : X → Bool) (xs : List X) (key : List ℕ) (v : Bool) → All (λ x. name x ≡ key → ⊥) xs → ¬ Any (λ x. (name x ≡ key) × (value x ≡ v)) xs
-  none_valued value xs key v none = λ any. none any.0 any.1 any.2 (ap name any.3 ∙ any.4.0)
+  pub none_valued : (value : X → Bool) (xs : List X) (key : List ℕ) → All (λ x. name x ≡ key → ⊥) xs → (v : Bool) → None ≡ Some v ↔ Any (λ x. (name x ≡ key) × (value x ≡ v)) xs
+  none_valued value xs key none v = (λ clash. absurd cc, λ any. absurd (none any.0 any.1 any.2 (ap name any.3 ∙ any.4.0)))

@@ -1,5 +1,5 @@
 -- The values that a flag text gives to gates.
-use Rattle.std.specs.Prelude.{◌≡◌, ◌↔◌, ◌⊎◌, ℕ, Bool, List, map, Contains, Any, Option, None, unwrap_or, codes}
+use Rattle.std.specs.Prelude.{◌≡◌, ◌≢◌, ◌↔◌, ◌⊎◌, ℕ, Bool, List, map, Contains, Any, Option, None, unwrap_or, codes}
 use Rattle.std.specs.Ordering.{nat_cmp}
 use Rattle.std.specs.Cmp.Lexicographic.{slice_cmp}
 use Rattle.std.specs.List.Sorted.{IsStrictlySortedBy}
@@ -42,10 +42,11 @@ pub record Gates : Type 0 where
   pub rows : List GateRow
   pub removed : List RemovedGate
 
--- both lists are in byte order of the names, and have no name twice
+-- both lists are in byte order of the names, and no name stands twice, in one of them or in both
 pub record AreInOrder (gates : Gates) : Type 0 where
   pub rows : IsStrictlySortedBy (slice_cmp nat_cmp) (map (λ r. r.name) gates.rows)
   pub removed : IsStrictlySortedBy (slice_cmp nat_cmp) (map (λ r. r.name) gates.removed)
+  pub apart : (row : GateRow) (gate : RemovedGate) → Contains gates.rows row → Contains gates.removed gate → row.name ≢ gate.name
 
 -- each gate that the tables know has its row, and each removed gate its value
 pub record AreGateValues (tables : List GateEntry) (ps : List FlagPiece) (gates : Gates) : Type 0 where

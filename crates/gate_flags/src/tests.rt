@@ -169,7 +169,6 @@ fn looks_values_up(rt: HostRuntime) -> Result<(), Fail> {
         ("", None),
     ] {
         assert_eq!(rt; values.value(name.as_bytes()), want, "{name}");
-        assert_eq!(rt; values.is_on(name.as_bytes()), want == Some(true), "{name}");
     }
     Ok(())
 }

@@ -1,4 +1,4 @@
-ghost use Rattle.std.specs.Prelude.{◌≡◌, ◌≢◌, ◌↔◌, Bool, true, IsTrue, IfSome, IfNone, Any, All, map};
+ghost use Rattle.std.specs.Prelude.{◌≡◌, ◌↔◌, Bool, Some, Any, map};
 ghost use Rattle.std.specs.Ordering.{nat_cmp};
 ghost use Rattle.std.specs.Cmp.Lexicographic.{slice_cmp};
 ghost use Rattle.std.specs.List.Sorted.{IsStrictlySortedBy};
@@ -44,7 +44,7 @@ impl Model for GateValues {
 }
 
 impl GateValues {
-    // Both lists are in order of their names.
+    // Both lists are in order of their names, and share none.
     pub(crate) fn new(rows: Vec<GateRow>, removed: Vec<RemovedGate>) -> GateValues
         requires { AreInOrder (record { rows = rows.items; removed = removed.items }) }
         ensures rows { result.rows ≡ rows.items }
@@ -53,22 +53,14 @@ impl GateValues {
         GateValues { rows, removed }
     }
 
-    /// The value of the gate with this name: where the release knows the gate or removed it.
+    /// The value of the gate with this name: where the release knows the gate or removed it, the one that it has.
     pub fn value(&self, name: &[u8]) -> Option<bool>
-        ensures some { IfSome result (HasValue self.now name.now) }
-        ensures none { IfNone result ((value : Bool) → ¬ HasValue self.now name.now value) }
+        ensures { (v : Bool) → (result ≡ Some v) ↔ HasValue self.now name.now v }
     {
         match value_of_row(&self.rows, name) {
             Some(value) => Some(value),
             None => value_of_removed(&self.removed, name),
         }
-    }
-
-    /// Whether the gate with this name has the value true.
-    pub fn is_on(&self, name: &[u8]) -> bool
-        ensures { IsTrue result ↔ HasValue self.now name.now true }
-    {
-        is_row_on(&self.rows, name) || is_removed_on(&self.removed, name)
     }
 
     /// The gates that the release knows, in byte order of their names.
@@ -85,31 +77,10 @@ fn compared(name: &Text, bytes: &[u8]) -> Ordering
     name.bytes().cmp(&bytes)
 }
 
-fn is_row_on(rows: &[GateRow], name: &[u8]) -> bool
-    requires { IsStrictlySortedBy (slice_cmp nat_cmp) (map (λ r. r.name) rows.now) }
-    ensures { IsTrue result ↔ Any (λ r. (r.name ≡ name.now) × (r.value ≡ true)) rows.now }
-{
-    match value_of_row(rows, name) {
-        Some(value) => value,
-        None => false,
-    }
-}
-
-fn is_removed_on(gates: &[RemovedGate], name: &[u8]) -> bool
-    requires { IsStrictlySortedBy (slice_cmp nat_cmp) (map (λ r. r.name) gates.now) }
-    ensures { IsTrue result ↔ Any (λ r. (r.name ≡ name.now) × (r.value ≡ true)) gates.now }
-{
-    match value_of_removed(gates, name) {
-        Some(value) => value,
-        None => false,
-    }
-}
-
 // The value of the row with this name, in rows that rise by name.
 fn value_of_row(rows: &[GateRow], name: &[u8]) -> Option<bool>
     requires { IsStrictlySortedBy (slice_cmp nat_cmp) (map (λ r. r.name) rows.now) }
-    ensures some { IfSome result (λ v. Any (λ r. (r.name ≡ name.now) × (r.value ≡ v)) rows.now) }
-    ensures none { IfNone result (All (λ r. r.name ≢ name.now) rows.now) }
+    ensures { (v : Bool) → (result ≡ Some v) ↔ Any (λ r. (r.name ≡ name.now) × (r.value ≡ v)) rows.now }
 {
     match rows.binary_search_by(|row| compared(&row.name, name)) {
         Ok(at) => Some(rows[at].value),
@@ -120,8 +91,7 @@ fn value_of_row(rows: &[GateRow], name: &[u8]) -> Option<bool>
 // The value that is kept of the gate with this name, in gates that rise by name.
 fn value_of_removed(gates: &[RemovedGate], name: &[u8]) -> Option<bool>
     requires { IsStrictlySortedBy (slice_cmp nat_cmp) (map (λ r. r.name) gates.now) }
-    ensures some { IfSome result (λ v. Any (λ r. (r.name ≡ name.now) × (r.value ≡ v)) gates.now) }
-    ensures none { IfNone result (All (λ r. r.name ≢ name.now) gates.now) }
+    ensures { (v : Bool) → (result ≡ Some v) ↔ Any (λ r. (r.name ≡ name.now) × (r.value ≡ v)) gates.now }
 {
     match gates.binary_search_by(|gate| compared(&gate.name, name)) {
         Ok(at) => Some(gates[at].value),

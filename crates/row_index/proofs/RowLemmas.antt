@@ -4,7 +4,8 @@ use Rattle.std.specs.Prelude.{◌&&◌, slice_get, filter, find, option_map, opt
 use Rattle.std.specs.BTreeMap.{BTreeMap, get, values}
 use Rattle.std.specs.Borrow.{Bor}
 use Rattle.std.specs.Global.{Vec}
-use Rattle.std.specs.Bool.{Decides}
+use Rattle.std.specs.Bool.{Decides, beq}
+use Rattle.std.specs.Option.{option_eq}
 use Rattle.std.specs.List.{list_any, cons_option, AllByRecursion}
 use Rattle.std.specs.List.Sorted.{IsStrictlySortedBy}
 use Rattle.std.specs.Ordering.{nat_cmp}
@@ -59,10 +60,16 @@ guard_decided : (gates : Gates) (guard : Option (List ℕ)) → Decides (is_on g
 guard_decided gates None = ((λ t. tt), (λ t. refl))
 guard_decided gates (Some gate) = gate_decided gates gate
 
+is_yes : (o : Option Bool) → Decides (option_eq beq o (Some true)) (o ≡ Some true)
+is_yes None = ((λ t. absurd cc), (λ e. absurd cc))
+is_yes (Some true) = ((λ t. refl), (λ e. refl))
+is_yes (Some false) = ((λ t. absurd cc), (λ e. absurd cc))
+
 -- what a look-up of the guard answers
-pub guard_read : (gates : Gates) (guard : Option (List ℕ)) (gate bytes : List ℕ) (r : Bool) → guard ≡ Some gate → bytes ≡ gate → (IsTrue r ↔ HasValue gates bytes true) → r ≡ is_on gates guard
-guard_read gates guard gate bytes r is same says =
-    same_from_decides r (is_on gates (Some gate)) (subst (λ k. Decides r (HasValue gates k true)) same says) (gate_decided gates gate) ∙ ap (is_on gates) (sym is)
+pub guard_read : (gates : Gates) (guard : Option (List ℕ)) (gate bytes : List ℕ) (o : Option Bool) → guard ≡ Some gate → bytes ≡ gate → ((v : Bool) → o ≡ Some v ↔ HasValue gates bytes v) → option_eq beq o (Some true) ≡ is_on gates guard
+guard_read gates guard gate bytes o is same says =
+    let on : o ≡ Some true ↔ HasValue gates gate true = subst (λ k. o ≡ Some true ↔ HasValue gates k true) same (says true) in
+    same_from_decides (option_eq beq o (Some true)) (is_on gates (Some gate)) ((λ t. on.0 ((is_yes o).0 t)), (λ has. (is_yes o).1 (on.1 has))) (gate_decided gates gate) ∙ ap (is_on gates) (sym is)
 
 -- ---- entries of a list
 

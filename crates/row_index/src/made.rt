@@ -35,7 +35,7 @@ fn is_guard_on(gates: &GateValues, field: &Field) -> bool
     ensures { result ≡ is_on gates.now field.now.gate }
 {
     match &field.gate {
-        Some(gate) => gates.is_on(gate.bytes()),
+        Some(gate) => gates.value(gate.bytes()) == Some(true),
         None => true,
     }
 }
