@@ -33,7 +33,7 @@ pub fn listed<'m, 'a, E>(
     listing.get(&(a, b, c))
 }
 
-/// Lists one more entry at the name, behind those that are listed there.
+/// Lists one more entry at the name, behind those that are listed there. Where memory runs out, those may be lost.
 pub fn add<'a, E>(
     alloc: Global,
     listing: &mut Listing<'a, E>,
