@@ -8,3 +8,4 @@ pub mod MemLaws
 pub mod Moments
 pub mod Slots
 pub mod Stops
+pub mod Folder

@@ -1,7 +1,9 @@
 //! The real disk. What the machine does with its files no contract can see: here is proved what it counts.
-ghost use Rattle.std.specs.Prelude.{◌≡◌, ◌+◌, ◌<◌, [], length, Ok, IfOk, OnOk};
+ghost use Rattle.std.specs.Prelude.{◌≡◌, ◌+◌, ◌<◌, ◌^◌, ◌-◌, ◌≤◌, ◌↔◌, [], length, Ok, IfOk, OnOk, OnErr, IsErr};
+ghost use Rattle.std.specs.Fs.{metadata_len};
 ghost use Rattle.basis.specs.Counts.{HasCause};
 ghost use Rattle.disk.specs.Counted.{counted};
+ghost use Rattle.disk.specs.Folder.{file_in};
 ghost use Rattle.disk.specs.Images.{resting, end_of_lengths};
 ghost use Rattle.disk.specs.Moments.{Ticks};
 
@@ -9,10 +11,9 @@ use crate::disk::Disk;
 use crate::failed::Failed;
 use crate::file::File;
 use crate::slots::fits;
-use basis::raised;
 use std::alloc::Global;
 use std::error::Error;
-use std::fs::{OpenFile, OpenOptions};
+use std::fs::{Metadata, OpenFile, OpenOptions};
 use std::io::{ErrorKind, Read, Seek, SeekFrom, Write};
 use std::rt::Files;
 use std::{fmt, fs, io};
@@ -54,7 +55,9 @@ struct FileSet<F> {
 }
 
 impl<F> FileSet<F> {
-    fn get(&mut self, file: File) -> &mut F {
+    fn get(&mut self, file: File) -> &mut F
+        ensures { result.now ≡ file_in self.old file }
+    {
         match file {
             File::Choice => &mut self.choice,
             File::Left => &mut self.left,
@@ -84,18 +87,36 @@ fn open<R: Files>(rt: &R, alloc: Global, folder: &str, name: &str) -> Result<R::
     Ok(file)
 }
 
+fn sync_folder<R: Files>(rt: &R, alloc: Global, folder: &str, name: &str) -> Result<(), AtFault> {
+    let Ok(path) = format!(in alloc; "{folder}/{name}") else {
+        return Err(AtFault::Memory);
+    };
+    fs::open(rt, path.as_str())?.sync_all()?;
+    Ok(())
+}
+
 fn too_far() -> io::Error {
     io::Error::from(ErrorKind::InvalidInput)
+}
+
+// The length that the machine tells of a file.
+fn length_in(told: &Metadata) -> io::Result<u64>
+    ensures len { IfOk result (λ n. n ≡ metadata_len told.now) }
+    ensures short { IfOk result (λ n. n < end_of_lengths) }
+    ensures too_far { IsErr result ↔ (end_of_lengths ≤ metadata_len told.now) }
+{
+    let len = told.len();
+    if fits(len, 0) {
+        Ok(len)
+    } else {
+        Err(too_far())
+    }
 }
 
 fn length_of<F: OpenFile>(file: &F) -> io::Result<u64>
     ensures { IfOk result (λ n. n < end_of_lengths) }
 {
-    let len = file.metadata()?.len();
-    if !fits(len, 0) {
-        return Err(too_far());
-    }
-    Ok(len)
+    length_in(&file.metadata()?)
 }
 
 fn read_from<F: Read + Seek>(file: &mut F, at: u64, into: &mut [u8]) -> io::Result<()> {
@@ -122,15 +143,18 @@ fn cut_at<F: OpenFile>(file: &F, to: u64) -> io::Result<()> {
 
 impl<R: Files> FileDisk<R> {
     /// The disk of a folder. The folder and the files are made where they are missing.
-    pub fn at(rt: &R, alloc: Global, folder: &str) -> Result<Self, AtFault> {
+    pub fn at(rt: &R, alloc: Global, folder: &str) -> Result<Self, AtFault>
+        ensures { IfOk result (λ d. (d.clock ≡ 0) × (d.faults ≡ 0)) }
+    {
         fs::create_dir_all(rt, folder)?;
         let files = FileSet {
             choice: open(rt, alloc, folder, "choice")?,
             left: open(rt, alloc, folder, "left")?,
             right: open(rt, alloc, folder, "right")?,
         };
-        // The names of new files outlive a stop only then.
-        fs::open(rt, folder)?.sync_all()?;
+        // Only then does a stop leave the names of new files, and that of a new folder.
+        sync_folder(rt, alloc, folder, ".")?;
+        sync_folder(rt, alloc, folder, "..")?;
         Ok(FileDisk {
             files,
             clock: 0,
@@ -149,13 +173,16 @@ impl<R: Files> FileDisk<R> {
     // Counts an error of the machine.
     fn told<T>(&mut self, done: io::Result<T>) -> Result<T, Failed>
         ensures value { IfOk result (λ value. done ≡ Ok value) }
+        ensures error { OnErr result (IsErr done) }
         ensures clock { self.new.clock ≡ self.old.clock }
         ensures cause { HasCause self.old.faults self.new.faults result }
+        ensures fine { OnOk result (self.new.faults ≡ self.old.faults) }
+        ensures failed { OnErr result (self.new.faults ≡ counted self.old.faults) }
     {
         match done {
             Ok(value) => Ok(value),
             Err(_) => {
-                self.faults = raised(self.faults);
+                self.faults = self.faults.saturating_add(1);
                 Err(Failed)
             }
         }
@@ -163,11 +190,15 @@ impl<R: Files> FileDisk<R> {
 
     // Raises the clock for a call that may change a file.
     fn tick(&mut self) -> Result<(), Failed>
+        ensures ticked { self.new.clock ≡ counted self.old.clock }
+        ensures end { OnErr result (self.old.clock ≡ 2 ^ 64 - 1) }
         ensures clock { Ticks self.old.clock self.new.clock result }
         ensures cause { HasCause self.old.faults self.new.faults result }
+        ensures fine { OnOk result (self.new.faults ≡ self.old.faults) }
+        ensures failed { OnErr result (self.new.faults ≡ counted self.old.faults) }
     {
         if self.clock == u64::MAX {
-            self.faults = raised(self.faults);
+            self.faults = self.faults.saturating_add(1);
             return Err(Failed);
         }
         self.clock += 1;
@@ -200,6 +231,8 @@ impl<R: Files> Disk for FileDisk<R> {
         ensures short { IfOk result (λ n. n < end_of_lengths) }
         ensures clock { self.new.clock ≡ self.old.clock }
         ensures cause { HasCause self.old.faults self.new.faults result }
+        ensures fine { OnOk result (self.new.faults ≡ self.old.faults) }
+        ensures failed { OnErr result (self.new.faults ≡ counted self.old.faults) }
     {
         let len = length_of(self.files.get(file));
         self.told(len)
@@ -208,6 +241,8 @@ impl<R: Files> Disk for FileDisk<R> {
     fn read_at(&mut self, file: File, at: u64, into: &mut [u8]) -> Result<(), Failed>
         ensures clock { self.new.clock ≡ self.old.clock }
         ensures cause { HasCause self.old.faults self.new.faults result }
+        ensures fine { OnOk result (self.new.faults ≡ self.old.faults) }
+        ensures failed { OnErr result (self.new.faults ≡ counted self.old.faults) }
     {
         let done = read_from(self.files.get(file), at, into);
         self.told(done)
@@ -216,7 +251,10 @@ impl<R: Files> Disk for FileDisk<R> {
     fn write_at(&mut self, file: File, at: u64, bytes: &[u8]) -> Result<(), Failed>
         ensures short { OnOk result (at + length bytes.now < end_of_lengths) }
         ensures clock { Ticks self.old.clock self.new.clock result }
+        ensures ticked { self.new.clock ≡ counted self.old.clock }
         ensures cause { HasCause self.old.faults self.new.faults result }
+        ensures fine { OnOk result (self.new.faults ≡ self.old.faults) }
+        ensures failed { OnErr result (self.new.faults ≡ counted self.old.faults) }
     {
         self.tick()?;
         let done = write_to(self.files.get(file), at, bytes);
@@ -225,7 +263,10 @@ impl<R: Files> Disk for FileDisk<R> {
 
     fn cut(&mut self, file: File, to: u64) -> Result<(), Failed>
         ensures clock { Ticks self.old.clock self.new.clock result }
+        ensures ticked { self.new.clock ≡ counted self.old.clock }
         ensures cause { HasCause self.old.faults self.new.faults result }
+        ensures fine { OnOk result (self.new.faults ≡ self.old.faults) }
+        ensures failed { OnErr result (self.new.faults ≡ counted self.old.faults) }
     {
         self.tick()?;
         let done = cut_at(self.files.get(file), to);
@@ -234,7 +275,10 @@ impl<R: Files> Disk for FileDisk<R> {
 
     fn sync(&mut self, file: File) -> Result<(), Failed>
         ensures clock { Ticks self.old.clock self.new.clock result }
+        ensures ticked { self.new.clock ≡ counted self.old.clock }
         ensures cause { HasCause self.old.faults self.new.faults result }
+        ensures fine { OnOk result (self.new.faults ≡ self.old.faults) }
+        ensures failed { OnErr result (self.new.faults ≡ counted self.old.faults) }
     {
         self.tick()?;
         let done = self.files.get(file).sync_all();

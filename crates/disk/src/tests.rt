@@ -2,6 +2,7 @@ use super::*;
 use basis::Memory;
 use minor_version::Blob;
 use std::alloc::Global;
+use std::fs;
 use std::process::Abort;
 use std::test::Fail;
 
@@ -161,6 +162,6 @@ fn a_disk_of_files(rt: HostRuntime) -> Result<(), Fail> {
     assert_eq!(rt; two.as_slice(), b"cd".as_slice());
     assert!(rt; again.read_at(File::Left, 3, &mut two).is_err());
     assert_eq!(rt; again.len(File::Right), Ok(0));
-    fs::remove_dir_all(&rt, alloc, folder)?;
+    fs::remove_dir_all(&rt, folder)?;
     Ok(())
 }

@@ -129,6 +129,7 @@ fn open_still<G: Gather, D: Disk>(alloc: Global, disk: &mut D) -> Result<(Journa
     ensures mended { D.tells → IfOk result (λ r. IsMended (D.held disk.old chosen) r.0.base (D.held disk.new chosen)) }
     ensures refused { D.tells → (file : FileS) (at : ℕ) → IsErrOf result (NotAStore file at) → (file ≡ chosen) × IsRefusal (D.held disk.old chosen) at × (D.held disk.new ≡ D.held disk.old) }
     ensures memory { D.tells → IsErrOf result OpenFault.Memory → D.held disk.new ≡ D.held disk.old }
+    ensures synced { D.tells → ¬ IsErrOf result OpenFault.Disk → IsStill (D.held disk.new) (D.pending disk.new) chosen }
     ensures time { D.tells → Moments D.clock D.may_leave disk.old disk.new (λ _. LeavesMeaning (D.held disk.old) (D.pending disk.old)) }
     ensures others { D.tells → OthersStay (D.held disk.old) (D.held disk.new) (D.pending disk.old) (D.pending disk.new) }
     ensures beside { D.beside disk.new ≡ D.beside disk.old }
@@ -166,6 +167,7 @@ pub fn open_journal_into<G: Gather, D: Disk>(
     ensures mended { D.tells → IfOk result (λ r. IsMended (D.held disk.old chosen) r.0.base (D.held disk.new chosen)) }
     ensures refused { D.tells → (file : FileS) (at : ℕ) → IsErrOf result (NotAStore file at) → (file ≡ chosen) × IsRefusal (D.held disk.old chosen) at × (D.held disk.new ≡ D.held disk.old) }
     ensures memory { D.tells → IsErrOf result OpenFault.Memory → D.held disk.new ≡ D.held disk.old }
+    ensures synced { D.tells → ¬ IsErrOf result OpenFault.Disk → IsStill (D.held disk.new) (D.pending disk.new) chosen }
     ensures time { D.tells → OpensOver D.clock D.may_leave D.held D.pending disk.old disk.new }
     ensures still { D.tells → IsStill (D.held disk.old) (D.pending disk.old) chosen → Moments D.clock D.may_leave disk.old disk.new (λ _. LeavesMeaning (D.held disk.old) (D.pending disk.old)) }
     ensures others { D.tells → OthersStay (D.held disk.old) (D.held disk.new) (D.pending disk.old) (D.pending disk.new) }
@@ -187,6 +189,7 @@ pub fn open_journal<D: Disk>(alloc: Global, disk: &mut D) -> Result<(Journal, En
     ensures mended { D.tells → IfOk result (λ r. IsMended (D.held disk.old chosen) r.0.base (D.held disk.new chosen)) }
     ensures refused { D.tells → (file : FileS) (at : ℕ) → IsErrOf result (NotAStore file at) → (file ≡ chosen) × IsRefusal (D.held disk.old chosen) at × (D.held disk.new ≡ D.held disk.old) }
     ensures memory { D.tells → IsErrOf result OpenFault.Memory → D.held disk.new ≡ D.held disk.old }
+    ensures synced { D.tells → ¬ IsErrOf result OpenFault.Disk → IsStill (D.held disk.new) (D.pending disk.new) chosen }
     ensures time { D.tells → OpensOver D.clock D.may_leave D.held D.pending disk.old disk.new }
     ensures still { D.tells → IsStill (D.held disk.old) (D.pending disk.old) chosen → Moments D.clock D.may_leave disk.old disk.new (λ _. LeavesMeaning (D.held disk.old) (D.pending disk.old)) }
     ensures others { D.tells → OthersStay (D.held disk.old) (D.held disk.new) (D.pending disk.old) (D.pending disk.new) }

@@ -7,7 +7,6 @@ ghost use Rattle.disk.specs.Counted.{counted};
 ghost use Rattle.outside.specs.Streams.{WritesWhole};
 
 use crate::streams::{Sink, Source};
-use basis::raised;
 use disk::{FailList, Failed};
 use minor_version::Blob;
 use std::alloc::Global;
@@ -58,6 +57,8 @@ impl Source for MemSource {
         ensures bound { ReadsAtMost result into.new }
         ensures bytes { ReadConsumes (Some self.old.left) (Some self.new.left) result into.new }
         ensures cause { HasCause self.old.faults self.new.faults result }
+        ensures fine { OnOk result (self.new.faults ≡ self.old.faults) }
+        ensures failed { OnErr result (self.new.faults ≡ counted self.old.faults) }
 
         // The numbers of the failing calls are those of the list.
         ensures fails { IsErr result ↔ Contains self.old.fails (counted self.old.calls) }
@@ -66,7 +67,7 @@ impl Source for MemSource {
     {
         self.calls = self.calls.saturating_add(1);
         if self.fail.contains(self.calls) {
-            self.faults = raised(self.faults);
+            self.faults = self.faults.saturating_add(1);
             return Err(Failed);
         }
         let (_, rest) = self.bytes.bytes().split_at(self.at);
@@ -133,23 +134,26 @@ impl Sink for MemSink {
     fn write(&mut self, bytes: &[u8]) -> Result<(), Failed>
         ensures bytes { WritesWhole (Some self.old.written) (Some self.new.written) result bytes.now }
         ensures cause { HasCause self.old.faults self.new.faults result }
+        ensures fine { OnOk result (self.new.faults ≡ self.old.faults) }
+        ensures failed { OnErr result (self.new.faults ≡ counted self.old.faults) }
 
         // A listed call fails, and another only where it found no memory and counted that.
         ensures listed_fails { Contains self.old.fails (counted self.old.calls) → IsErr result }
         ensures fails { OnErr result (Contains self.old.fails (counted self.old.calls) ⊎ (self.new.starved ≡ counted self.old.starved)) }
         ensures calls { self.new.calls ≡ counted self.old.calls }
         ensures fed { OnOk result (self.new.starved ≡ self.old.starved) }
+        ensures listed_fed { Contains self.old.fails (counted self.old.calls) → self.new.starved ≡ self.old.starved }
         ensures listed { self.new.fails ≡ self.old.fails }
     {
         self.calls = self.calls.saturating_add(1);
         if self.fail.contains(self.calls) {
-            self.faults = raised(self.faults);
+            self.faults = self.faults.saturating_add(1);
             return Err(Failed);
         }
         match self.bytes.extend_from_slice(bytes) {
             Ok(()) => Ok(()),
             Err(_) => {
-                self.faults = raised(self.faults);
+                self.faults = self.faults.saturating_add(1);
                 self.starved = self.starved.saturating_add(1);
                 Err(Failed)
             }
