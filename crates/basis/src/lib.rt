@@ -2,7 +2,6 @@
 //! names.
 #![tactic(auto)]
 
-mod count;
 mod memory;
 mod name_map;
 mod names;
@@ -10,7 +9,6 @@ mod sequence;
 #[cfg(test)]
 mod tests;
 
-pub use count::raised;
 pub use memory::Memory;
 pub use name_map::{NameMap, put, value_of};
 pub use names::{is_camel_word, is_dotted_labels, is_label, is_lower_word, is_pascal_word};

@@ -1,5 +1,6 @@
 //! Maps by names of three parts.
-ghost use Rattle.std.specs.Prelude.{◌≡◌, ℕ, List, [], None, OnOk, cond};
+ghost use Rattle.std.specs.Prelude.{◌≡◌, ℕ, List, [], None, OnOk, OnErr, cond};
+ghost use Rattle.std.specs.BTreeMap.{IsUnchanged};
 ghost use Rattle.basis.specs.NameMap.{value_at, is_same_name};
 
 use crate::memory::Memory;
@@ -20,7 +21,7 @@ pub fn value_of<'a, V: Copy>(
     map.get(&(a, b, c)).copied()
 }
 
-/// Puts the value at the name. Where memory runs out, the value is dropped.
+/// Puts the value at the name. Where memory runs out, the value is dropped and the map stays.
 pub fn put<'a, V: Drop>(
     map: &mut NameMap<'a, V>,
     a: &'a [u8],
@@ -28,7 +29,8 @@ pub fn put<'a, V: Drop>(
     c: &'a [u8],
     value: V,
 ) -> Result<(), Memory>
-    ensures { OnOk result ((x y z : List ℕ) → value_at map.new x y z ≡ cond (is_same_name a.now b.now c.now x y z) (Some value) (value_at map.old x y z)) }
+    ensures ok { OnOk result ((x y z : List ℕ) → value_at map.new x y z ≡ cond (is_same_name a.now b.now c.now x y z) (Some value) (value_at map.old x y z)) }
+    ensures err { OnErr result (IsUnchanged map.old map.new) }
 {
     match map.insert((a, b, c), value) {
         Ok(_) => Ok(()),

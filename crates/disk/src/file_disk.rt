@@ -142,11 +142,14 @@ fn cut_at<F: OpenFile>(file: &F, to: u64) -> io::Result<()> {
 }
 
 impl<R: Files> FileDisk<R> {
-    /// The disk of a folder. The folder and the files are made where they are missing.
+    /// The disk of a folder. The files are made where they are missing, and so is the folder, in one that is there.
     pub fn at(rt: &R, alloc: Global, folder: &str) -> Result<Self, AtFault>
         ensures { IfOk result (λ d. (d.clock ≡ 0) × (d.faults ≡ 0)) }
     {
-        fs::create_dir_all(rt, folder)?;
+        let is_new = !fs::exists(rt, folder)?;
+        if is_new {
+            fs::create_dir(rt, folder)?;
+        }
         let files = FileSet {
             choice: open(rt, alloc, folder, "choice")?,
             left: open(rt, alloc, folder, "left")?,
@@ -154,7 +157,11 @@ impl<R: Files> FileDisk<R> {
         };
         // Only then does a stop leave the names of new files, and that of a new folder.
         sync_folder(rt, alloc, folder, ".")?;
-        sync_folder(rt, alloc, folder, "..")?;
+        match sync_folder(rt, alloc, folder, "..") {
+            // The folder above one that was there may be another's, and closed to this program.
+            Err(AtFault::Failed) if !is_new => {}
+            named => named?,
+        }
         Ok(FileDisk {
             files,
             clock: 0,

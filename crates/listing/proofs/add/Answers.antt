@@ -21,5 +21,5 @@ returns-in-Ok g c =
     (puts x y z)
     (c.remove.ensures.updates.0 (record { ref_ptr = (0, 0); now = x }, record { ref_ptr = (0, 0); now = y }, record { ref_ptr = (0, 0); now = z })
     ∙ ap (λ (t : Bool). cond t None (value_at c.args.listing.now x y z)) (same_name c.args.a.now c.args.b.now c.args.c.now x y z))
-    (λ same. pushed ∙ ap (λ l. l ++ c.args.entry.now ∷ []) (moved c.args.listing.now c.args.a.now c.args.b.now c.args.c.now x y z same))) c.put.ensures in
+    (λ same. pushed ∙ ap (λ l. l ++ c.args.entry.now ∷ []) (moved c.args.listing.now c.args.a.now c.args.b.now c.args.c.now x y z same))) c.put.ensures.ok in
     record { puts = puts; grows = on_ok c.put.result (λ put named entries same listing. grown named entries x c.args.a.now c.args.b.now c.args.c.now old c.put.new.map put same listing) puts }

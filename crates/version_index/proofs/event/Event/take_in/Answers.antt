@@ -25,4 +25,4 @@ returns c =
     (λ puts (tables : List TheEntry) h.
     put_in (is_event c.args.self) tables c.args.entry.now c.args.map.now c.put.new.map c.args.entry _ _ _ c.bytes-group.ensures c.bytes-version.ensures c.bytes-resource.ensures refl (sym c.is_of.ensures ∙ c.if-not-is_of.false)
     (ap is_some (sym c.value_of.ensures) ∙ sym c.is_some.ensures ∙ c.if-is_some.false) puts h)
-    c.put.ensures
+    c.put.ensures.ok
