@@ -8,13 +8,13 @@ use Rattle.std.specs.Str.Parse.{ParsesSigned, IsNumeral, signed_digits_value, wi
 use Rattle.std.proofs.lemmas.Fmt.{decimal_is_IsNumeral, parse-signed_decimal}
 use Rattle.std.proofs.lemmas.Int.{ints}
 use Rattle.std.proofs.lemmas.Slice.Eq.{bytes_eq-Decides}
-use Rattle.conversion.specs.Writing.{IsWhole}
+use Rattle.conversion.specs.Writing.{IsInt64}
 
 ok_from_iff : {T E : Type 0} (r : Result T E) (P : Type 0) (v : T) → OkIff r P v → P → r ≡ Ok v
 ok_from_iff (Ok x) P v h p = ap Ok h.1
 ok_from_iff (Err e) P v h p = absurd (h p)
 
-read_negative : {E : Type 0} (n : ℕ) (r : Result ℤ E) → IsWhole (negsuc n) → ParsesSigned w64 10 (45 ∷ decimal (suc n)) r → r ≡ Ok (negsuc n)
+read_negative : {E : Type 0} (n : ℕ) (r : Result ℤ E) → IsInt64 (negsuc n) → ParsesSigned w64 10 (45 ∷ decimal (suc n)) r → r ≡ Ok (negsuc n)
 read_negative n r whole h =
     let small : suc n < 2 ^ 64 = omega (arith, ints) in
     let numeral = decimal_is_IsNumeral (suc n) small in
@@ -22,7 +22,7 @@ read_negative n r whole h =
     ok_from_iff r (IsNumeral 10 (without_leading_sign (45 ∷ decimal (suc n))) × FitsSigned w64 (signed_digits_value 10 (45 ∷ decimal (suc n)))) (signed_digits_value 10 (45 ∷ decimal (suc n))) h
     (numeral.0, subst (FitsSigned w64) (sym value) whole) ∙ ap Ok value
 
-pub read_decimal : {E : Type 0} (z : ℤ) (text : List ℕ) (r : Result ℤ E) → IsWhole z → text ≡ signed_decimal z → ParsesSigned w64 10 text r → r ≡ Ok z
+pub read_decimal : {E : Type 0} (z : ℤ) (text : List ℕ) (r : Result ℤ E) → IsInt64 z → text ≡ signed_decimal z → ParsesSigned w64 10 text r → r ≡ Ok z
 read_decimal (pos n) text r whole is h = parse-signed_decimal w64 (pos n) text r whole (omega (arith, ints)) is h
 read_decimal (negsuc n) text r whole is h = read_negative n r whole (subst (λ t. ParsesSigned w64 10 t r) is h)
 

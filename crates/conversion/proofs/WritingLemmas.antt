@@ -13,7 +13,7 @@ use Rattle.serde_json.specs.Data.{Data, null, boolean, number, string, array, ob
 use Rattle.serde_json.specs.Find.{of_integer}
 use Rattle.serde_json.specs.View.{items_of}
 use Rattle.conversion.specs.Trees.{IsObject}
-use Rattle.conversion.specs.Writing.{IsWhole, IsWrittenIn, Spells}
+use Rattle.conversion.specs.Writing.{IsInt64, IsWrittenIn, Spells}
 
 -- ---- no written value is null, or an object
 
@@ -51,7 +51,7 @@ abbrev size : ℤ → ℕ
 size (pos n) = n
 size (negsuc n) = suc n
 
-whole_small : (z : ℤ) → IsWhole z → size z < 2 ^ 64
+whole_small : (z : ℤ) → IsInt64 z → size z < 2 ^ 64
 whole_small (pos n) h = omega (arith, ints)
 whole_small (negsuc n) h = omega (arith, ints)
 
@@ -64,7 +64,7 @@ minus_first zero ds h e =
     no_digit (get_or (48 ∷ []) 0 0) (get_or (45 ∷ ds) 0 0) (ap (λ xs. get_or xs 0 0) (sym digit ∙ e)) refl refl
 minus_first (suc n) ds h e = let first = first_decimal (suc n) (omega arith) h in let is : get_or (decimal (suc n)) 0 0 ≡ 45 = ap (λ xs. get_or xs 0 0) e in absurd (omega arith)
 
-same_decimal : (y z : ℤ) → IsWhole y → IsWhole z → signed_decimal y ≡ signed_decimal z → y ≡ z
+same_decimal : (y z : ℤ) → IsInt64 y → IsInt64 z → signed_decimal y ≡ signed_decimal z → y ≡ z
 same_decimal (pos m) (pos n) h k e = ap pos (decimal_injective m n (whole_small (pos m) h) (whole_small (pos n) k) e)
 same_decimal (pos m) (negsuc n) h k e = absurd (minus_first m (decimal (suc n)) (whole_small (pos m) h) e)
 same_decimal (negsuc m) (pos n) h k e = absurd (minus_first n (decimal (suc m)) (whole_small (pos n) k) (sym e))

@@ -13,14 +13,14 @@ use Rattle.serde_json.specs.Find.{of_integer}
 use Rattle.serde_json.specs.View.{items_of}
 
 -- a whole number of 64 bits
-abbrev pub IsWhole : ℤ → Type 0
-IsWhole z = FitsSigned w64 z
+abbrev pub IsInt64 : ℤ → Type 0
+IsInt64 z = FitsSigned w64 z
 
 -- the JSON is the value in the form. `Not` is a form of booleans, and `Decimal` of whole numbers: their decimal text,
 -- with a minus sign below 0
 abbrev pub IsWrittenIn : Form → FieldValue → Data → Type 0
 IsWrittenIn Same (Bool b) json = json ≡ boolean b
-IsWrittenIn Same (Int z) json = IsWhole z × (json ≡ number (of_integer z))
+IsWrittenIn Same (Int z) json = IsInt64 z × (json ≡ number (of_integer z))
 IsWrittenIn Same (Text t) json = json ≡ string t
 IsWrittenIn Same (Texts ts) json = json ≡ array (items_of (map string ts))
 IsWrittenIn Not (Bool b) json = json ≡ boolean (not b)
@@ -28,7 +28,7 @@ IsWrittenIn Not (Int z) json = ⊥
 IsWrittenIn Not (Text t) json = ⊥
 IsWrittenIn Not (Texts ts) json = ⊥
 IsWrittenIn Decimal (Bool b) json = ⊥
-IsWrittenIn Decimal (Int z) json = IsWhole z × (json ≡ string (signed_decimal z))
+IsWrittenIn Decimal (Int z) json = IsInt64 z × (json ≡ string (signed_decimal z))
 IsWrittenIn Decimal (Text t) json = ⊥
 IsWrittenIn Decimal (Texts ts) json = ⊥
 

@@ -7,7 +7,7 @@ ghost use Rattle.serde_json.specs.Data.{number, string, array};
 ghost use Rattle.serde_json.specs.Find.{of_integer};
 ghost use Rattle.serde_json.specs.View.{view, items_of};
 ghost use Rattle.conversion.specs.Code.{IsSpelledAs, IsTextsOf};
-ghost use Rattle.conversion.specs.Writing.{IsWhole, IsWrittenIn};
+ghost use Rattle.conversion.specs.Writing.{IsInt64, IsWrittenIn};
 
 use crate::decimal::whole_of_text;
 use basis::Memory;
@@ -30,8 +30,8 @@ fn bool_of(form: Form, json: &Value) -> Option<bool>
 
 // The number, where it is whole and has at most 64 bits.
 fn whole_of(json: &Value) -> Option<i64>
-    ensures some { IfSome result (λ z. IsWhole z × (view json.now ≡ number (of_integer z))) }
-    ensures none { IfNone result ((z : ℤ) → IsWhole z → view json.now ≢ number (of_integer z)) }
+    ensures some { IfSome result (λ z. IsInt64 z × (view json.now ≡ number (of_integer z))) }
+    ensures none { IfNone result ((z : ℤ) → IsInt64 z → view json.now ≢ number (of_integer z)) }
 {
     match json.as_number() {
         Some(number) => number.as_i64(),

@@ -1,7 +1,7 @@
 -- Which fault each test finds, behind those that find none.
 use Rattle.std.proofs.Common.{ℕ, refl, inl, inr}
 use Rattle.schemas.specs.declared.array.Array.TheVariants.{Field as FieldArray, Spell as SpellArray}
-use Rattle.schemas.specs.Places.{Each, Breaks, IsFirst}
+use Rattle.schemas.specs.Places.{Each, Breaks, IsLeast}
 use Rattle.schemas.proofs.PlaceLemmas.{unbroken}
 use Rattle.schemas.specs.FieldRules.{BelongsToResource, IsRequiredFairly, HasKnownGate, IsSpelledThroughout}
 use Rattle.schemas.specs.Dated.{Dated}
@@ -12,43 +12,43 @@ abbrev pub EachBelongs : Dated → Type 0
 EachBelongs h = Each (BelongsToResource (first_of h) h.apis) h.fields
 
 abbrev pub FirstBelongs : Dated → ℕ → Type 0
-FirstBelongs h n = IsFirst (Breaks (BelongsToResource (first_of h) h.apis) h.fields) n
+FirstBelongs h n = IsLeast (Breaks (BelongsToResource (first_of h) h.apis) h.fields) n
 
 abbrev pub EachRequired : Dated → Type 0
 EachRequired h = Each (IsRequiredFairly h.apis) h.fields
 
 abbrev pub FirstRequired : Dated → ℕ → Type 0
-FirstRequired h n = IsFirst (Breaks (IsRequiredFairly h.apis) h.fields) n
+FirstRequired h n = IsLeast (Breaks (IsRequiredFairly h.apis) h.fields) n
 
 abbrev pub EachGated : Dated → Type 0
 EachGated h = Each (HasKnownGate (first_of h) h.gates) h.fields
 
 abbrev pub FirstGated : Dated → ℕ → Type 0
-FirstGated h n = IsFirst (Breaks (HasKnownGate (first_of h) h.gates) h.fields) n
+FirstGated h n = IsLeast (Breaks (HasKnownGate (first_of h) h.gates) h.fields) n
 
 abbrev pub EachSpelled : Dated → Type 0
 EachSpelled h = Each (IsSpelledThroughout h.apis h.spells) h.fields
 
 abbrev pub FirstSpelled : Dated → ℕ → Type 0
-FirstSpelled h n = IsFirst (Breaks (IsSpelledThroughout h.apis h.spells) h.fields) n
+FirstSpelled h n = IsLeast (Breaks (IsSpelledThroughout h.apis h.spells) h.fields) n
 
 abbrev pub EachPaired : Dated → Type 0
 EachPaired h = Each (SpellsPairOnce h.apis h.fields) h.spells
 
 abbrev pub FirstPaired : Dated → ℕ → Type 0
-FirstPaired h n = IsFirst (Breaks (SpellsPairOnce h.apis h.fields) h.spells) n
+FirstPaired h n = IsLeast (Breaks (SpellsPairOnce h.apis h.fields) h.spells) n
 
 abbrev pub EachOwnPath : Dated → Type 0
 EachOwnPath h = Each (HasOwnPath) h.spells
 
 abbrev pub FirstOwnPath : Dated → ℕ → Type 0
-FirstOwnPath h n = IsFirst (Breaks (HasOwnPath) h.spells) n
+FirstOwnPath h n = IsLeast (Breaks (HasOwnPath) h.spells) n
 
 abbrev pub EachFits : Dated → Type 0
 EachFits h = Each (FitsField h.fields) h.spells
 
 abbrev pub FirstFits : Dated → ℕ → Type 0
-FirstFits h n = IsFirst (Breaks (FitsField h.fields) h.spells) n
+FirstFits h n = IsLeast (Breaks (FitsField h.fields) h.spells) n
 
 pub belongs_fault : (h : Dated) (n : ℕ) → FirstBelongs h n → IsFirstFault h field_checks 11 FieldArray n
 belongs_fault h n first = inl (refl, refl, first)

@@ -12,7 +12,7 @@ use Rattle.fields.specs.declared.field.Spell.{Spell}
 use Rattle.schemas.specs.FieldRules.{is_of_resource, AreOneField}
 use Rattle.listing.specs.Keys.{resource_of_field, version_of_spell}
 use Rattle.listing.specs.Listing.{Listed, lent_in, listed_at, IsListing, HasLent, EachLent}
-use Rattle.schemas.specs.Pairs.{AreOfOneVersion, AreOfOnePair}
+use Rattle.schemas.specs.Pairs.{AreForOneVersion, AreOfOnePair}
 use Rattle.fields.specs.Table.{AreApart}
 use Rattle.basis.proofs.NameLemmas.{same_parts}
 use Rattle.listing.proofs.NameLemmas.{parts_same}
@@ -62,12 +62,12 @@ single s spells m o b p q r listing is at_g at_v at_r test =
     )) in
     denied (AreOfOnePair s) spells b (λ t. both.0 (test.0 t), λ any. test.1 (both.1 any))
 
-pub apart : (s : Spell) (spells : List Spell) (m : Listed Spell) (o : Option (Bor (Vec (Bor Spell)))) (b : Bool) (p q r : List ℕ) → IsListing version_of_spell spells m → lent_in o ≡ listed_at m p q r → p ≡ s.group → q ≡ s.version → r ≡ s.resource → (IsTrue b ↔ EachLent (λ x. AreApart s.path x.path) o) → IsTrue b ↔ All (λ t. AreOfOneVersion s t → AreApart s.path t.path) spells
+pub apart : (s : Spell) (spells : List Spell) (m : Listed Spell) (o : Option (Bor (Vec (Bor Spell)))) (b : Bool) (p q r : List ℕ) → IsListing version_of_spell spells m → lent_in o ≡ listed_at m p q r → p ≡ s.group → q ≡ s.version → r ≡ s.resource → (IsTrue b ↔ EachLent (λ x. AreApart s.path x.path) o) → IsTrue b ↔ All (λ t. AreForOneVersion s t → AreApart s.path t.path) spells
 apart s spells m o b p q r listing is at_g at_v at_r test =
     let P : Spell → Type 0 = λ x. AreApart s.path x.path in
-    let Q : Spell → Type 0 = λ t. AreOfOneVersion s t → AreApart s.path t.path in
+    let Q : Spell → Type 0 = λ t. AreForOneVersion s t → AreApart s.path t.path in
     let both = all_found P Q version_of_spell spells m o p q r listing is (λ (t : Spell). (
       λ (h : Q t) same. let parts = parts_same t.group t.version t.resource p q r same in h (record { group = sym at_g ∙ sym parts.0; version = sym at_v ∙ sym parts.1; resource = sym at_r ∙ sym parts.2 }),
-      λ h (v : AreOfOneVersion s t). h (same_parts t.group t.version t.resource p q r (sym v.group ∙ sym at_g) (sym v.version ∙ sym at_v) (sym v.resource ∙ sym at_r)),
+      λ h (v : AreForOneVersion s t). h (same_parts t.group t.version t.resource p q r (sym v.group ∙ sym at_g) (sym v.version ∙ sym at_v) (sym v.resource ∙ sym at_r)),
     )) in
     (λ t. both.0 (test.0 t), λ every. test.1 (both.1 every))

@@ -4,7 +4,7 @@ ghost use Rattle.fields.specs.declared.field.Spell.{Spell as TheSpell};
 ghost use Rattle.schemas.specs.Places.{FindsFirst};
 ghost use Rattle.listing.specs.Keys.{version_of_spell};
 ghost use Rattle.listing.specs.Listing.{IsListing};
-ghost use Rattle.schemas.specs.Pairs.{AreOfOneVersion, AreOfOnePair};
+ghost use Rattle.schemas.specs.Pairs.{AreForOneVersion, AreOfOnePair};
 ghost use Rattle.fields.specs.Table.{AreApart};
 ghost use Rattle.schemas.specs.SpellRules.{SpellsPairOnce, HasOwnPath, FitsField};
 
@@ -55,7 +55,7 @@ pub fn first_unpaired<'a>(
 }
 
 fn is_apart<'a>(earlier: &Listing<'a, Spell>, spell: &'a Spell) -> bool
-    ensures { (spells : List TheSpell) → IsListing version_of_spell spells earlier.now → IsTrue result ↔ All (λ t. AreOfOneVersion spell.now t → AreApart spell.now.path t.path) spells }
+    ensures { (spells : List TheSpell) → IsListing version_of_spell spells earlier.now → IsTrue result ↔ All (λ t. AreForOneVersion spell.now t → AreApart spell.now.path t.path) spells }
 {
     let group = spell.group.bytes();
     let version = spell.version.bytes();

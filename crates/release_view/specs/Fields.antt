@@ -9,7 +9,8 @@ use Rattle.release_view.specs.declared.release.View.TheInside.{Inside}
 abbrev pub viewed : Inside → Viewed
 viewed v = record { minor = v.minor; gates = v.gates; versions = v.versions.items }
 
-pub record IsWhole (v : Inside) : Type 0 where
+-- the versions are in order and their tables lawful, and the served ones are listed
+pub record IsSound (v : Inside) : Type 0 where
   pub order : AreInPlace v.versions.items
   pub listed : v.served.items ≡ served_of v.versions.items
   pub lawful : HaveLawfulTables v.versions.items

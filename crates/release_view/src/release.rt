@@ -26,13 +26,13 @@ pub struct View {
 
 impl Model for View {
     ghost use Rattle.release_view.specs.Views.{Viewed};
-    ghost use Rattle.release_view.specs.Fields.{viewed, IsWhole};
+    ghost use Rattle.release_view.specs.Fields.{viewed, IsSound};
 
     ghost Value = { Viewed };
 
     ghost view = { viewed };
 
-    ghost invariant = { IsWhole };
+    ghost invariant = { IsSound };
 }
 
 impl Planned {

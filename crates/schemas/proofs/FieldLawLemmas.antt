@@ -24,7 +24,7 @@ use Rattle.schemas.proofs.PlaceLemmas.{some_injective}
 use Rattle.schemas.proofs.PreviousLemmas.{entry_at, IsLast, last_passing_is}
 use Rattle.schemas.specs.FieldRules.{AreOneField}
 use Rattle.schemas.specs.Laws.{ArePairsKept, IsDecodable, LiveStaysDecodable, IsIntroducedOnce, IsSpelledOnceBy, DecodableIsSpelled, PathsAreApart}
-use Rattle.schemas.specs.Pairs.{IsPair, IsOfField, IsOfVersion, IsSpelling, SpellsPair, AreOfOneVersion, AreOfOnePair, HasOneSpelling, AreSpelledOnce}
+use Rattle.schemas.specs.Pairs.{IsPair, IsOfField, IsOfVersion, IsSpelling, SpellsPair, AreForOneVersion, AreOfOnePair, HasOneSpelling, AreSpelledOnce}
 
 some_at : {E : Type 0} (P : E → Type 0) (xs : List E) (i : ℕ) (x : E) → slice_get xs i ≡ Some x → P x → Any P xs
 some_at P xs i x stands here = (i, x, slice_get_within xs i x stands, get_or_from_slice_get xs i x x stands, here)
@@ -157,10 +157,10 @@ pub turned : (p q : List (List ℕ)) → AreApart p q → AreApart q p
 turned p q apart = record { not_through = apart.not_within; not_within = apart.not_through }
 
 pub paths_apart : (h : Dated) → IsAccepted h → PathsAreApart h.spells
-paths_apart h lawful = λ (i j : ℕ) (s t : Spell) (less : i < j) (at_i : slice_get h.spells i ≡ Some s) (at_j : slice_get h.spells j ≡ Some t) (one : AreOfOneVersion s t).
+paths_apart h lawful = λ (i j : ℕ) (s t : Spell) (less : i < j) (at_i : slice_get h.spells i ≡ Some s) (at_j : slice_get h.spells j ≡ Some t) (one : AreForOneVersion s t).
     let within : j < length h.spells = slice_get_within h.spells j t at_j in
     let bound : j ≤ length h.spells = omega arith in
-    turned t.path s.path (earlier_at (λ u. AreOfOneVersion t u → AreApart t.path u.path) h.spells i j s less bound at_i (lawful.paths_apart j t at_j).apart (record { group = sym one.group; version = sym one.version; resource = sym one.resource }))
+    turned t.path s.path (earlier_at (λ u. AreForOneVersion t u → AreApart t.path u.path) h.spells i j s less bound at_i (lawful.paths_apart j t at_j).apart (record { group = sym one.group; version = sym one.version; resource = sym one.resource }))
 
 -- the field of a spelling and the introduction of its version are those that it names
 pub one_field : (h : Dated) → IsAccepted h → (i j : ℕ) (f g : Field) → slice_get h.fields i ≡ Some f → slice_get h.fields j ≡ Some g → AreOneField f g → AreOneField g f → f ≡ g

@@ -16,7 +16,7 @@ use Rattle.lifecycle.specs.Entry.{GroupVersionResource, subject}
 use Rattle.lifecycle.specs.declared.entry.ApiEntry.{ApiEntry}
 use Rattle.schemas.proofs.DecisionLemmas.{any_decided, decided, both, at_most_decided, introduction_decided, forgotten_decided, IsStable, stable_decided, stable_not, stable_to, stable_all, stable_holds, stable_less, stable_at_most, stable_bool}
 use Rattle.schemas.specs.FieldRules.{is_of_resource, AreOneField, BelongsToResource, IsAlwaysThere, begins_at}
-use Rattle.schemas.specs.Pairs.{IntroducesVersionOf, IsPair, IsOfField, IsOfVersion, IsSpelling, SpellsPair, AreOfOneVersion, AreOfOnePair}
+use Rattle.schemas.specs.Pairs.{IntroducesVersionOf, IsPair, IsOfField, IsOfVersion, IsSpelling, SpellsPair, AreForOneVersion, AreOfOnePair}
 use Rattle.fields.specs.Table.{AreApart, IsFree, IsFormOf, IsShort, IsDefaultOf, type_of}
 use Rattle.schemas.specs.SpellRules.{SpellsPairOnce, HasOwnPath, FitsType}
 
@@ -109,7 +109,7 @@ apart_stable p q h = record {
 pub path_stable : (earlier : List Spell) (s : Spell) → IsStable (HasOwnPath earlier s)
 path_stable earlier s h = record {
   free = free_stable (slice_get s.path 0) (λ fails. h (λ (k : HasOwnPath earlier s). fails k.free));
-  apart = stable_all (λ t. AreOfOneVersion s t → AreApart s.path t.path) earlier (λ t. stable_to (apart_stable s.path t.path)) (λ fails. h (λ (k : HasOwnPath earlier s). fails k.apart));
+  apart = stable_all (λ t. AreForOneVersion s t → AreApart s.path t.path) earlier (λ t. stable_to (apart_stable s.path t.path)) (λ fails. h (λ (k : HasOwnPath earlier s). fails k.apart));
 }
 
 type_stable : (one other : FieldType) → IsStable (one ≡ other)

@@ -13,7 +13,7 @@ use Rattle.lifecycle.specs.declared.entry.ApiChange.TheVariants.{Introduced, Dep
 use Rattle.lifecycle.specs.declared.entry.ApiEntry.{ApiEntry}
 use Rattle.schemas.specs.declared.array.Array.{Array}
 use Rattle.schemas.specs.Dated.{Dated}
-use Rattle.schemas.specs.Places.{Each, IsFirst}
+use Rattle.schemas.specs.Places.{Each, IsLeast}
 use Rattle.schemas.specs.GateRules.{is_of_gate, previous_of_gate, IsGone, RisesInGate}
 use Rattle.schemas.specs.ApiRules.{is_of_version, previous_of_version, name_of, IsNext, IsPlanned, IsKept}
 use Rattle.schemas.specs.Rules.{IsAccepted, Check, IsUnbroken, IsFirstFault, last_of}
@@ -145,7 +145,7 @@ no_first_fault h (test ∷ more) r a n unbroken fault = elim fault [
   | inr later ↦ no_first_fault h more r a n unbroken.1 later.1
 ]
 
-one_first : (P : ℕ → Type 0) (m n : ℕ) → IsFirst P m → IsFirst P n → m ≡ n
+one_first : (P : ℕ → Type 0) (m n : ℕ) → IsLeast P m → IsLeast P n → m ≡ n
 one_first P m n p q = elim (cases_order m n) [
   | inl same ↦ same
   | inr other ↦ elim other [ inl low ↦ absurd (q.1 m low p.0) | inr high ↦ absurd (p.1 n high q.0) ]

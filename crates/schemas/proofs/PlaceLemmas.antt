@@ -3,7 +3,7 @@ use Rattle.std.proofs.Common.{ℕ, ◌≡◌, ◌+◌, ◌<◌, ◌≤◌, List,
 use Rattle.std.specs.Prelude.{slice_get}
 use Rattle.std.proofs.lemmas.Option.{slice_get_read, slice_get_within}
 use Rattle.std.proofs.Math.Nat.{eq-or-lt_of_le}
-use Rattle.schemas.specs.Places.{Each, Breaks, IsFirst}
+use Rattle.schemas.specs.Places.{Each, Breaks, IsLeast}
 
 -- the rule holds of each of the first n entries
 abbrev pub EachBelow : {E : Type 0} → (List E → E → Type 0) → List E → ℕ → Type 0
@@ -29,7 +29,7 @@ each_whole {E} Keeps xs n h all = λ (i : ℕ) (x : E) (stands : slice_get xs i 
     let within : i < length xs = slice_get_within xs i x stands in
     all i x (omega arith) stands
 
-pub first_broken : {E : Type 0} (Keeps : List E → E → Type 0) (xs : List E) (n : ℕ) (x : E) → n < length xs → x ≡ get_or xs n x → EachBelow Keeps xs n → ¬ Keeps (take n xs) x → IsFirst (Breaks Keeps xs) (n + 1)
+pub first_broken : {E : Type 0} (Keeps : List E → E → Type 0) (xs : List E) (n : ℕ) (x : E) → n < length xs → x ≡ get_or xs n x → EachBelow Keeps xs n → ¬ Keeps (take n xs) x → IsLeast (Breaks Keeps xs) (n + 1)
 first_broken {E} Keeps xs n x h e before here = (
   record { place = n; entry = x; counted = refl; stands = slice_get_read xs (length xs) n x refl h e; broken = here },
   λ (m : ℕ) (below : m < n + 1) (b : Breaks Keeps xs m).

@@ -13,7 +13,7 @@ use Rattle.schemas.specs.Dated.{Dated}
 use Rattle.schemas.specs.ApiRules.{name_of}
 use Rattle.schemas.specs.Cutoff.{fields_by, spells_by}
 use Rattle.schemas.specs.FieldRules.{IsSpelledThroughout}
-use Rattle.schemas.specs.Pairs.{IsSpelling, AreOfOneVersion as AreSpellingsOfOneVersion}
+use Rattle.schemas.specs.Pairs.{IsSpelling, AreForOneVersion}
 use Rattle.schemas.specs.Places.{Each}
 use Rattle.schemas.specs.Rows.{SpellFields, AreOfSameFields}
 use Rattle.schemas.specs.SpellRules.{SpellsPairOnce}
@@ -79,7 +79,7 @@ DecodableIsSpelled h = (name : GroupVersionResource) (e i : ℕ) (f : Field) →
 
 -- two spellings of one version have paths apart
 abbrev pub PathsAreApart : List Spell → Type 0
-PathsAreApart spells = (i j : ℕ) (s t : Spell) → i < j → slice_get spells i ≡ Some s → slice_get spells j ≡ Some t → AreSpellingsOfOneVersion s t → AreApart s.path t.path
+PathsAreApart spells = (i j : ℕ) (s t : Spell) → i < j → slice_get spells i ≡ Some s → slice_get spells j ≡ Some t → AreForOneVersion s t → AreApart s.path t.path
 
 -- the rows of a version at a release are lawful
 abbrev pub RowsAreLawful : Dated → Type 0

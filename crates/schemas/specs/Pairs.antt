@@ -34,14 +34,14 @@ abbrev pub IsSpelling : Field → GroupVersionResource → Spell → Type 0
 IsSpelling f name s = IsOfField f s × IsOfVersion name s
 
 -- two spellings are for one version
-pub record AreOfOneVersion (s t : Spell) : Type 0 where
+pub record AreForOneVersion (s t : Spell) : Type 0 where
   pub group : s.group ≡ t.group
   pub version : s.version ≡ t.version
   pub resource : s.resource ≡ t.resource
 
 -- two spellings are of one field in one version
 abbrev pub AreOfOnePair : Spell → Spell → Type 0
-AreOfOnePair s t = AreOfOneVersion s t × (s.field ≡ t.field)
+AreOfOnePair s t = AreForOneVersion s t × (s.field ≡ t.field)
 
 -- the field has exactly one spelling in the version
 pub record HasOneSpelling (spells : List Spell) (f : Field) (name : GroupVersionResource) : Type 0 where

@@ -18,9 +18,9 @@ pub record Breaks {E : Type 0} (Keeps : List E → E → Type 0) (xs : List E) (
   pub broken : ¬ Keeps (take place xs) entry
 
 -- the least number of which the fact holds
-abbrev pub IsFirst : (ℕ → Type 0) → ℕ → Type 0
-IsFirst P n = P n × ((m : ℕ) → m < n → ¬ P m)
+abbrev pub IsLeast : (ℕ → Type 0) → ℕ → Type 0
+IsLeast P n = P n × ((m : ℕ) → m < n → ¬ P m)
 
 -- the number of the first entry that breaks the rule, or none where the rule holds of each
 abbrev pub FindsFirst : {E : Type 0} → (List E → E → Type 0) → List E → Option ℕ → Type 0
-FindsFirst Keeps xs found = MatchOption found (Each Keeps xs) (IsFirst (Breaks Keeps xs))
+FindsFirst Keeps xs found = MatchOption found (Each Keeps xs) (IsLeast (Breaks Keeps xs))

@@ -9,7 +9,7 @@ use Rattle.schemas.specs.declared.array.Array.{Array}
 use Rattle.schemas.specs.declared.array.Array.TheVariants.{Top, Gate, Api, Field as FieldArray, Spell as SpellArray}
 use Rattle.schemas.specs.declared.broken.Broken.{Broken}
 use Rattle.schemas.specs.Dated.{Dated}
-use Rattle.schemas.specs.Places.{Each, Breaks, IsFirst}
+use Rattle.schemas.specs.Places.{Each, Breaks, IsLeast}
 use Rattle.schemas.specs.GateRules.{RisesInGate, FitsStage, FollowsLockedSpec}
 use Rattle.schemas.specs.ApiRules.{StandsInOrder, NamesItsKind, DeprecatesFairly, KeepsPlan, ForgetsLate}
 use Rattle.schemas.specs.FieldRules.{BelongsToResource, IsRequiredFairly, HasKnownGate, IsSpelledThroughout}
@@ -132,7 +132,7 @@ IsUnbroken h (check ∷ more) = ((number : ℕ) → ¬ check.IsBrokenAt h number
 abbrev pub IsFirstFault : Dated → List Check → ℕ → Array → ℕ → Type 0
 IsFirstFault h [] rule array number = ⊥
 IsFirstFault h (check ∷ more) rule array number =
-    ((rule ≡ check.rule) × (array ≡ check.array) × IsFirst (check.IsBrokenAt h) number)
+    ((rule ≡ check.rule) × (array ≡ check.array) × IsLeast (check.IsBrokenAt h) number)
     ⊎ (((k : ℕ) → ¬ check.IsBrokenAt h k) × IsFirstFault h more rule array number)
 
 -- what the tests find: the first fault, or that there is none

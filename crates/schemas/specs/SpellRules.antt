@@ -7,7 +7,7 @@ use Rattle.fields.specs.declared.field.Spell.{Spell}
 use Rattle.fields.specs.declared.value.FieldType.{FieldType}
 use Rattle.fields.specs.declared.value.FieldValue.{FieldValue}
 use Rattle.lifecycle.specs.declared.entry.ApiEntry.{ApiEntry}
-use Rattle.schemas.specs.Pairs.{IsOfField, IsPaired, AreOfOneVersion, AreOfOnePair}
+use Rattle.schemas.specs.Pairs.{IsOfField, IsPaired, AreForOneVersion, AreOfOnePair}
 
 -- HR14, of a spelling: it is that of a pair, dated when both the field and the version are there, and the pair has no earlier one
 pub record SpellsPairOnce (apis : List ApiEntry) (fields : List Field) (earlier : List Spell) (s : Spell) : Type 0 where
@@ -17,7 +17,7 @@ pub record SpellsPairOnce (apis : List ApiEntry) (fields : List Field) (earlier 
 -- HR15: the path begins at a member of its own, and is apart from each earlier one of its version
 pub record HasOwnPath (earlier : List Spell) (s : Spell) : Type 0 where
   pub free : IfSome (slice_get s.path 0) IsFree
-  pub apart : All (λ t. AreOfOneVersion s t → AreApart s.path t.path) earlier
+  pub apart : All (λ t. AreForOneVersion s t → AreApart s.path t.path) earlier
 
 -- the form and the default fit the type
 pub record FitsType (ty : FieldType) (form : Form) (default : Option FieldValue) : Type 0 where
