@@ -6,7 +6,7 @@ use Rattle.std.specs.Borrow.{Bor}
 use Rattle.std.specs.Global.{Vec}
 use Rattle.std.proofs.lemmas.Bool.{false≢true}
 use Rattle.std.proofs.lemmas.List.Elements.{All-cons, All-nil}
-use Rattle.basis.specs.NameMap.{is_same_name}
+use Rattle.basis.specs.NameMap.{value_at, is_same_name}
 use Rattle.basis.proofs.FilterLemmas.{filter-push, filter-push_not}
 use Rattle.listing.specs.Listing.{Listed, lent, lent_in, listed_at, Name, name_of, IsListing, HasLent, EachLent}
 use Rattle.listing.proofs.NameLemmas.{parts_same}
@@ -22,15 +22,33 @@ pub lent_push : {E : Type 0} (xs : List (Bor E)) (x : Bor E) → lent (xs ++ x �
 lent_push [] x = refl
 lent_push (y ∷ xs) x = ap (λ l. y.now ∷ l) (lent_push xs x)
 
-pub added : {E : Type 0} (b : Bool) (old mid new : Option (Vec (Bor E))) (v : Vec (Bor E)) (x : E) → new ≡ cond b (Some v) mid → mid ≡ cond b None old → (b ≡ true → lent v.items ≡ listed_in old ++ x ∷ []) → listed_in new ≡ cond b (listed_in old ++ x ∷ []) (listed_in old)
-added true old mid new v x p q here = ap listed_in p ∙ here refl
-added false old mid new v x p q here = ap listed_in (p ∙ q)
+added_in : {E : Type 0} (b : Bool) (old new : Option (Vec (Bor E))) (v : Vec (Bor E)) (x : E) → new ≡ cond b (Some v) old → (b ≡ true → lent v.items ≡ listed_in old ++ x ∷ []) → listed_in new ≡ cond b (listed_in old ++ x ∷ []) (listed_in old)
+added_in true old new v x p here = ap listed_in p ∙ here refl
+added_in false old new v x p here = ap listed_in p
+
+kept_in : {E : Type 0} (b : Bool) (old new : Option (Vec (Bor E))) (v : Vec (Bor E)) → new ≡ cond b (Some v) old → (b ≡ true → lent v.items ≡ listed_in old) → listed_in new ≡ listed_in old
+kept_in true old new v p here = ap listed_in p ∙ here refl
+kept_in false old new v p here = ap listed_in p
 
 -- at one name one list
-pub moved : {E : Type 0} (m : Listed E) (a b c x y z : List ℕ) → is_same_name a b c x y z ≡ true → listed_at m a b c ≡ listed_at m x y z
+moved : {E : Type 0} (m : Listed E) (a b c x y z : List ℕ) → is_same_name a b c x y z ≡ true → listed_at m a b c ≡ listed_at m x y z
 moved m a b c x y z same =
     let (p, q, r) = parts_same a b c x y z same in
     ap (λ (n : List ℕ). listed_at m n b c) p ∙ ap (λ (n : List ℕ). listed_at m x n c) q ∙ ap (λ (n : List ℕ). listed_at m x y n) r
+
+-- n is m with v put at the name
+abbrev pub PutAt : {E : Type 0} → Listed E → List ℕ → List ℕ → List ℕ → Vec (Bor E) → Listed E → Type 0
+PutAt m a b c v n = (x y z : List ℕ) → value_at n x y z ≡ cond (is_same_name a b c x y z) (Some v) (value_at m x y z)
+
+-- where what is put has one entry more than what was there, the name has one more
+pub added : {E : Type 0} (m n : Listed E) (a b c : List ℕ) (v : Vec (Bor E)) (x : E) → PutAt m a b c v n → lent v.items ≡ listed_at m a b c ++ x ∷ [] → (p q r : List ℕ) → listed_at n p q r ≡ cond (is_same_name a b c p q r) (listed_at m p q r ++ x ∷ []) (listed_at m p q r)
+added m n a b c v x puts is p q r =
+    added_in (is_same_name a b c p q r) (value_at m p q r) (value_at n p q r) v x (puts p q r) (λ same. is ∙ ap (λ l. l ++ x ∷ []) (moved m a b c p q r same))
+
+-- where what is put lists what was there, each name lists what it did
+pub kept : {E : Type 0} (m n : Listed E) (a b c : List ℕ) (v : Vec (Bor E)) → PutAt m a b c v n → lent v.items ≡ listed_at m a b c → (p q r : List ℕ) → listed_at n p q r ≡ listed_at m p q r
+kept m n a b c v puts is p q r =
+    kept_in (is_same_name a b c p q r) (value_at m p q r) (value_at n p q r) v (puts p q r) (λ same. is ∙ moved m a b c p q r same)
 
 -- the entries of this name
 abbrev pub of_name : {E : Type 0} → (E → Name) → List ℕ → List ℕ → List ℕ → E → Bool

@@ -1,7 +1,7 @@
 //! Entries listed by names of three parts, so that those of one name are found without a pass over all.
 #![tactic(auto)]
 
-ghost use Rattle.std.specs.Prelude.{◌≡◌, ◌++◌, ℕ, Bool, List, [], ◌∷◌, OnOk, IfOk, cond, filter};
+ghost use Rattle.std.specs.Prelude.{◌≡◌, ◌++◌, ℕ, Bool, List, [], ◌∷◌, OnOk, OnErr, IfOk, cond, filter};
 ghost use Rattle.basis.specs.NameMap.{is_same_name};
 ghost use Rattle.listing.specs.Listing.{lent_in, listed_at, name_of, Name, Names, Tells, IsListing};
 
@@ -33,7 +33,7 @@ pub fn listed<'m, 'a, E>(
     listing.get(&(a, b, c))
 }
 
-/// Lists one more entry at the name, behind those that are listed there. Where memory runs out, those may be lost.
+/// Lists one more entry at the name, behind those that are listed there. Where memory runs out, what is listed stays.
 pub fn add<'a, E>(
     alloc: Global,
     listing: &mut Listing<'a, E>,
@@ -44,11 +44,15 @@ pub fn add<'a, E>(
 ) -> Result<(), Memory>
     ensures puts { OnOk result ((x y z : List ℕ) → listed_at listing.new x y z ≡ cond (is_same_name a.now b.now c.now x y z) (listed_at listing.old x y z ++ entry.now ∷ []) (listed_at listing.old x y z)) }
     ensures grows { OnOk result ((named : E → Name) (entries : List E) → named entry.now ≡ name_of a.now b.now c.now → IsListing named entries listing.old → IsListing named (entries ++ entry.now ∷ []) listing.new) }
+    ensures err { OnErr result ((x y z : List ℕ) → listed_at listing.new x y z ≡ listed_at listing.old x y z) }
 {
-    let mut items = match listing.remove(&(a, b, c)) {
-        Some(items) => items,
-        None => Vec::new(alloc),
-    };
+    if let Some(items) = listing.get_mut(&(a, b, c)) {
+        return match items.push(entry) {
+            Ok(()) => Ok(()),
+            Err(_) => Err(Memory),
+        };
+    }
+    let mut items = Vec::new(alloc);
     match items.push(entry) {
         Ok(()) => put(listing, a, b, c, items),
         Err(_) => Err(Memory),
