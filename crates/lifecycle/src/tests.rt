@@ -52,14 +52,12 @@ fn versions_by_stability(rt: HostRuntime) -> Result<(), Fail> {
     Ok(())
 }
 
-fn entry(alloc: Global, version: &str, since: u16, change: ApiChange) -> Result<ApiEntry, Fail> {
-    Ok(ApiEntry {
-        group: Text::from_str(alloc, "demo.example")?,
-        version: Text::from_str(alloc, version)?,
-        resource: Text::from_str(alloc, "widgets")?,
-        since: from_number(since).ok_or("since")?,
-        change,
-    })
+#[derive(Clone, Copy)]
+enum Change {
+    Introduced,
+    Deprecated(u16, &'static str),
+    Removed,
+    Forgotten,
 }
 
 fn introduced(alloc: Global) -> Result<ApiChange, Fail> {
@@ -78,6 +76,43 @@ fn deprecated(alloc: Global, removal: u16, replacement: &str) -> Result<ApiChang
     })
 }
 
+fn change_of(alloc: Global, change: Change) -> Result<ApiChange, Fail> {
+    match change {
+        Change::Introduced => introduced(alloc),
+        Change::Deprecated(removal, replacement) => deprecated(alloc, removal, replacement),
+        Change::Removed => Ok(ApiChange::Removed),
+        Change::Forgotten => Ok(ApiChange::Forgotten),
+    }
+}
+
+fn entry(alloc: Global, version: &str, since: u16, change: ApiChange) -> Result<ApiEntry, Fail> {
+    Ok(ApiEntry {
+        since: from_number(since).ok_or("since")?,
+        group: Text::from_str(alloc, "demo.example")?,
+        version: Text::from_str(alloc, version)?,
+        resource: Text::from_str(alloc, "widgets")?,
+        change,
+    })
+}
+
+// Of the two deprecations the first in the list is dated later.
+const HISTORY: [(&str, u16, Change); 6] = [
+    ("v1beta1", 28, Change::Introduced),
+    ("v1beta1", 30, Change::Deprecated(33, "v1")),
+    ("v1beta1", 29, Change::Deprecated(34, "v2")),
+    ("v1beta1", 33, Change::Removed),
+    ("v1beta1", 36, Change::Forgotten),
+    ("v1", 30, Change::Introduced),
+];
+
+fn history(alloc: Global) -> Result<Vec<ApiEntry>, Fail> {
+    let mut entries = Vec::new(alloc);
+    for (version, since, what) in HISTORY {
+        entries.push(entry(alloc, version, since, change_of(alloc, what)?)?)?;
+    }
+    Ok(entries)
+}
+
 fn widgets<'a>(version: &'a str) -> ApiName<'a> {
     ApiName {
         group: b"demo.example",
@@ -86,62 +121,55 @@ fn widgets<'a>(version: &'a str) -> ApiName<'a> {
     }
 }
 
-#[test]
-fn live_from_introduction_to_removal(rt: HostRuntime) -> Result<(), Fail> {
-    let alloc = rt.alloc();
-    let entries = [
-        entry(alloc, "v1beta1", 28, introduced(alloc)?)?,
-        entry(alloc, "v1beta1", 33, ApiChange::Removed)?,
-        entry(alloc, "v1", 30, introduced(alloc)?)?,
-    ];
-    let cases = [
-        ("v1beta1", 27, false),
-        ("v1beta1", 28, true),
-        ("v1beta1", 32, true),
-        ("v1beta1", 33, false),
-        ("v1", 29, false),
-        ("v1", 33, true),
-        ("v2", 33, false),
-    ];
-    for (version, e, want) in cases {
-        let e: Minor = from_number(e).ok_or("e")?;
-        assert_eq!(rt; live_at(&entries, widgets(version), e), want, "{version}");
-    }
-    Ok(())
+fn is_known(entries: &[ApiEntry], version: &str, e: Minor, live: bool, decodable: bool) -> bool {
+    let name = widgets(version);
+    live_at(entries, name, e) == live && decodable_at(entries, name, e) == decodable
 }
 
-// A version is read until it is forgotten, and warned of until it is removed. Of two deprecations the first in the list
-// counts, also where it is dated later.
-#[test]
-fn read_and_warned_of(rt: HostRuntime) -> Result<(), Fail> {
-    let alloc = rt.alloc();
-    let entries = [
-        entry(alloc, "v1beta1", 28, introduced(alloc)?)?,
-        entry(alloc, "v1beta1", 30, deprecated(alloc, 33, "v1")?)?,
-        entry(alloc, "v1beta1", 29, deprecated(alloc, 34, "v2")?)?,
-        entry(alloc, "v1beta1", 33, ApiChange::Removed)?,
-        entry(alloc, "v1beta1", 36, ApiChange::Forgotten)?,
-    ];
-    let cases = [
-        (27, false, 0, 0, ""),
-        (28, true, 0, 0, ""),
-        (29, true, 29, 34, "v2"),
-        (30, true, 30, 33, "v1"),
-        (33, true, 0, 0, ""),
-        (36, false, 0, 0, ""),
-    ];
-    for (k, decodable, since, removal, replacement) in cases {
-        let e: Minor = from_number(k).ok_or("e")?;
-        let name = widgets("v1beta1");
-        assert_eq!(rt; decodable_at(&entries, name, e), decodable, "{k}");
-        match warning_at(&entries, name, e) {
-            Some(warning) => {
-                assert_eq!(rt; warning.since.number(), since, "{k}");
-                assert_eq!(rt; warning.removal.number(), removal, "{k}");
-                assert_eq!(rt; warning.replacement, replacement.as_bytes(), "{k}");
-            }
-            None => assert_eq!(rt; since, 0, "{k}"),
+fn is_warned_of(
+    entries: &[ApiEntry],
+    version: &str,
+    e: Minor,
+    since: u16,
+    removal: u16,
+    replacement: &str,
+) -> bool {
+    match warning_at(entries, widgets(version), e) {
+        Some(warning) => {
+            warning.since.number() == since
+                && warning.removal.number() == removal
+                && warning.replacement == replacement.as_bytes()
         }
+        None => since == 0,
+    }
+}
+
+// A version is live from its introduction to its removal, and warned of so long; it is read until it is forgotten.
+// The release since which a warning holds is zero where there is none.
+#[test]
+fn versions_at_releases(rt: HostRuntime) -> Result<(), Fail> {
+    let entries = history(rt.alloc())?;
+    for (version, k, live, decodable, since, removal, replacement) in [
+        ("v1beta1", 27, false, false, 0, 0, ""),
+        ("v1beta1", 28, true, true, 0, 0, ""),
+        ("v1beta1", 29, true, true, 29, 34, "v2"),
+        ("v1beta1", 30, true, true, 30, 33, "v1"),
+        ("v1beta1", 32, true, true, 30, 33, "v1"),
+        ("v1beta1", 33, false, true, 0, 0, ""),
+        ("v1beta1", 36, false, false, 0, 0, ""),
+        ("v1", 29, false, false, 0, 0, ""),
+        ("v1", 33, true, true, 0, 0, ""),
+        ("v2", 33, false, false, 0, 0, ""),
+    ] {
+        let e = from_number(k).ok_or("e")?;
+        assert!(rt;
+            is_known(&entries, version, e, live, decodable),
+            "{version} at {k}"
+        );
+        assert!(rt;
+            is_warned_of(&entries, version, e, since, removal, replacement),
+            "{version} at {k}"
+        );
     }
     Ok(())
 }
