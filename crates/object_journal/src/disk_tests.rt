@@ -1,8 +1,8 @@
-ghost use Rattle.std.specs.Prelude.{◌≡◌, ℕ, [], IfOk, IsTrue};
+ghost use Rattle.std.specs.Prelude.{◌≡◌, ℕ, [], IfSome, IsTrue};
 ghost use Rattle.object_journal.specs.Journal.{MayFollow, IsLawfulChange};
 
 use super::*;
-use crate::tests::{BODY, has_body, has_lawful_texts};
+use crate::tests::{has_body, has_lawful_texts};
 use basis::Memory;
 use disk::{FailList, File, MemDisk};
 use minor_version::Blob;
@@ -43,11 +43,18 @@ fn count(alloc: Global, disk: &mut MemDisk) -> Result<usize, OpenFault> {
     }
 }
 
-pub(super) fn entries_of_a_put(alloc: Global) -> Result<Entries, Fail> {
-    let mut disk = disk_with(alloc, file_of_a_put(), &[])?;
-    match opened(alloc, &mut disk) {
-        Ok(entries) => Ok(entries),
-        Err(_) => Err(Fail::from("not opened")),
+pub(super) fn entries_of_a_put(alloc: Global) -> Result<Entries, OpenFault> {
+    match disk_with(alloc, file_of_a_put(), &[]) {
+        Ok(mut disk) => opened(alloc, &mut disk),
+        Err(_) => Err(OpenFault::Memory),
+    }
+}
+
+// How many entries an opening of these bytes gives, where the calls with these numbers fail.
+fn count_of(alloc: Global, left: &[u8], fails: &[u64]) -> Result<usize, OpenFault> {
+    match disk_with(alloc, left, fails) {
+        Ok(mut disk) => count(alloc, &mut disk),
+        Err(_) => Err(OpenFault::Memory),
     }
 }
 
@@ -102,47 +109,65 @@ fn changed_files(rt: HostRuntime) -> Result<(), Fail> {
     Ok(())
 }
 
-// Whether an opening gives a put with this body first.
-fn opens_with_body(alloc: Global, disk: &mut MemDisk, body: &[u8]) -> bool {
+// Whether an opening gives a put of so many bytes of the body first.
+fn opens_with_body(alloc: Global, disk: &mut MemDisk, length: usize) -> bool {
     match opened(alloc, disk) {
         Ok(entries) => match entries.items().first() {
-            Some(entry) => has_body(entry, body),
+            Some(entry) => has_body(entry, length),
             None => false,
         },
         Err(_) => false,
     }
 }
 
+fn is_cut_body(alloc: Global) -> bool {
+    match changed(alloc, 20, &[146]) {
+        Ok(mut disk) => opens_with_body(alloc, &mut disk, 94),
+        Err(_) => false,
+    }
+}
+
 #[test]
 fn length_of_one_less(rt: HostRuntime) -> Result<(), Fail> {
-    let mut disk = changed(rt.alloc(), 20, &[146])?;
-    let body = BODY.as_bytes().get(..94).ok_or("a short body")?;
-    assert!(rt; opens_with_body(rt.alloc(), &mut disk, body));
+    assert!(rt; is_cut_body(rt.alloc()));
     Ok(())
+}
+
+fn is_left_by_refusal(alloc: Global, disk: &mut MemDisk, held: &[u8]) -> bool {
+    is_refused(count(alloc, disk), 0) && disk.held_bytes(File::Left) == held
+}
+
+fn are_refused(alloc: Global, file: &[u8]) -> bool {
+    match disk_with(alloc, file, &[]) {
+        Ok(mut disk) => is_left_by_refusal(alloc, &mut disk, file),
+        Err(_) => false,
+    }
 }
 
 #[test]
 fn a_file_of_zeros(rt: HostRuntime) -> Result<(), Fail> {
-    let mut disk = disk_with(rt.alloc(), &[0; 40], &[])?;
-    assert!(rt; is_refused(count(rt.alloc(), &mut disk), 0));
-    assert_eq!(rt; disk.held_bytes(File::Left), [0; 40].as_slice());
+    assert!(rt; are_refused(rt.alloc(), &[0; 40]));
     Ok(())
 }
 
-// Whether a short file opens with no entries, and then holds the header and a closed gate.
-fn is_mended(alloc: Global, file: &[u8]) -> bool {
-    let Ok(mut disk) = disk_with(alloc, file, &[]) else {
-        return false;
-    };
-    is_opened(count(alloc, &mut disk), 0)
+// Whether the file opens with no entries, and then holds the header and a closed gate.
+fn is_mended(alloc: Global, disk: &mut MemDisk) -> bool {
+    is_opened(count(alloc, disk), 0)
         && disk.held_bytes(File::Left) == b"KEMUJNL1\0\0\0\0\0\0\0\0\0".as_slice()
+}
+
+fn are_mended(alloc: Global, file: &[u8]) -> bool {
+    match disk_with(alloc, file, &[]) {
+        Ok(mut disk) => is_mended(alloc, &mut disk),
+        Err(_) => false,
+    }
 }
 
 #[test]
 fn short_files(rt: HostRuntime) -> Result<(), Fail> {
-    assert!(rt; is_mended(rt.alloc(), b""));
-    assert!(rt; is_mended(rt.alloc(), b"ten bytes."));
-    assert!(rt; is_mended(rt.alloc(), b"KEMUJNL1\0\0\0\0\0\0\0\0O"));
+    assert!(rt; are_mended(rt.alloc(), b""));
+    assert!(rt; are_mended(rt.alloc(), b"ten bytes."));
+    assert!(rt; are_mended(rt.alloc(), b"KEMUJNL1\0\0\0\0\0\0\0\0O"));
     Ok(())
 }
 
@@ -156,46 +181,65 @@ fn is_first(entry: &Entry) -> bool
     }
 }
 
-pub(super) fn framed_of(alloc: Global, entry: &Entry) -> Result<Framed, Fail>
-    ensures { IfOk result (λ f. (base : ℕ) → MayFollow base [] f) }
+pub(super) fn framed_of(alloc: Global, entry: &Entry) -> Option<Framed>
+    ensures { IfSome result (λ f. (base : ℕ) → MayFollow base [] f) }
 {
     if !has_lawful_texts(&entry.key) || !is_first(entry) {
-        return Err(Fail::from("not lawful"));
+        return None;
     }
     match frame(alloc, entry) {
-        Ok(framed) => Ok(framed),
-        Err(_) => Err(Fail::from("no frame")),
+        Ok(framed) => Some(framed),
+        Err(_) => None,
     }
 }
 
-fn first(alloc: Global) -> Result<Framed, Fail>
-    ensures { IfOk result (λ f. (base : ℕ) → MayFollow base [] f) }
+fn first(alloc: Global) -> Option<Framed>
+    ensures { IfSome result (λ f. (base : ℕ) → MayFollow base [] f) }
 {
-    let entries = entries_of_a_put(alloc)?;
+    let Ok(entries) = entries_of_a_put(alloc) else {
+        return None;
+    };
     match entries.items().first() {
         Some(entry) => framed_of(alloc, entry),
-        None => Err(Fail::from("no entry")),
+        None => None,
     }
 }
 
 // Opens a journal with no entries, and appends one. Whether it ended then, and its revision.
-fn append_first(alloc: Global, disk: &mut MemDisk) -> Result<(bool, u64), Fail> {
-    let framed = first(alloc)?;
+fn append_first(alloc: Global, disk: &mut MemDisk) -> Option<(bool, u64)> {
+    let Some(framed) = first(alloc) else {
+        return None;
+    };
     let Ok((mut journal, entries)) = open_journal(alloc, disk) else {
-        return Err(Fail::from("not opened"));
+        return None;
     };
     if !entries.items().is_empty() {
-        return Err(Fail::from("not empty"));
+        return None;
     }
     let _ = journal.append(&framed, disk);
-    Ok((journal.has_ended(), journal.revision()))
+    Some((journal.has_ended(), journal.revision()))
+}
+
+// Whether an append to this disk leaves the file of a put.
+fn is_appended(alloc: Global, disk: &mut MemDisk) -> bool {
+    match append_first(alloc, disk) {
+        Some((ended, revision)) => {
+            !ended && revision == 1 && disk.held_bytes(File::Left) == file_of_a_put()
+        }
+        None => false,
+    }
+}
+
+fn appends(alloc: Global) -> bool {
+    match disk_with(alloc, b"", &[]) {
+        Ok(mut disk) => is_appended(alloc, &mut disk),
+        Err(_) => false,
+    }
 }
 
 #[test]
 fn an_append(rt: HostRuntime) -> Result<(), Fail> {
-    let mut disk = disk_with(rt.alloc(), b"", &[])?;
-    assert_eq!(rt; append_first(rt.alloc(), &mut disk)?, (false, 1));
-    assert_eq!(rt; disk.held_bytes(File::Left), file_of_a_put());
+    assert!(rt; appends(rt.alloc()));
     Ok(())
 }
 
@@ -228,13 +272,19 @@ fn counts(alloc: Global, disk: &MemDisk, pick: u64) -> u64 {
     digits
 }
 
-// A disk on which the calls with these numbers fail, after an opening and an append.
-fn appended(alloc: Global, fails: &[u64]) -> Result<MemDisk, Fail> {
-    let mut disk = disk_with(alloc, b"", fails)?;
-    match append_first(alloc, &mut disk) {
-        Ok((ended, _)) if ended != fails.is_empty() => Ok(disk),
-        Ok(_) => Err(Fail::from("not ended as it should")),
-        Err(fail) => Err(fail),
+// The counts after an opening and an append, which ends the journal or not; 0 where it is not as it should.
+fn counts_of_append(alloc: Global, disk: &mut MemDisk, ends: bool, pick: u64) -> u64 {
+    match append_first(alloc, disk) {
+        Some((ended, _)) if ended == ends => counts(alloc, disk, pick),
+        _ => 0,
+    }
+}
+
+// The counts on a disk on which the calls with these numbers fail.
+fn counts_with(alloc: Global, fails: &[u64], pick: u64) -> u64 {
+    match disk_with(alloc, b"", fails) {
+        Ok(mut disk) => counts_of_append(alloc, &mut disk, !fails.is_empty(), pick),
+        Err(_) => 0,
     }
 }
 
@@ -243,34 +293,26 @@ fn appended(alloc: Global, fails: &[u64]) -> Result<MemDisk, Fail> {
 #[test]
 fn stops(rt: HostRuntime) -> Result<(), Fail> {
     let alloc = rt.alloc();
-    let disk = appended(alloc, &[])?;
-    assert_eq!(rt; counts(alloc, &disk, 0), 1_00000_00001);
-    assert_eq!(rt; counts(alloc, &disk, 1), 1_00000_00011);
-    assert_eq!(rt; counts(alloc, &disk, 79), 1_00000_00011);
-    assert_eq!(rt; counts(alloc, &disk, 255), 1_00000_00001);
+    assert_eq!(rt; counts_with(alloc, &[], 0), 1_00000_00001);
+    assert_eq!(rt; counts_with(alloc, &[], 1), 1_00000_00011);
+    assert_eq!(rt; counts_with(alloc, &[], 79), 1_00000_00011);
+    assert_eq!(rt; counts_with(alloc, &[], 255), 1_00000_00001);
     Ok(())
-}
-
-fn counts_after_failure(alloc: Global, call: u64) -> Result<u64, Fail> {
-    let disk = appended(alloc, &[call])?;
-    Ok(counts(alloc, &disk, 79))
 }
 
 // Calls 8 to 11 are those of the append. What a stop leaves after a failure may have the gate open only where it was
 // written.
 #[test]
 fn failures_of_an_append(rt: HostRuntime) -> Result<(), Fail> {
-    assert_eq!(rt; counts_after_failure(rt.alloc(), 8)?, 1_00000_00);
-    assert_eq!(rt; counts_after_failure(rt.alloc(), 9)?, 1_00000_000);
-    assert_eq!(rt; counts_after_failure(rt.alloc(), 10)?, 1_00000_0001);
+    let alloc = rt.alloc();
+    assert_eq!(rt; counts_with(alloc, &[8], 79), 1_00000_00);
+    assert_eq!(rt; counts_with(alloc, &[9], 79), 1_00000_000);
+    assert_eq!(rt; counts_with(alloc, &[10], 79), 1_00000_0001);
     Ok(())
 }
 
 fn fails_to_open(alloc: Global, call: u64) -> bool {
-    match disk_with(alloc, b"", &[call]) {
-        Ok(mut disk) => matches!(count(alloc, &mut disk), Err(OpenFault::Disk)),
-        Err(_) => false,
-    }
+    matches!(count_of(alloc, b"", &[call]), Err(OpenFault::Disk))
 }
 
 #[test]

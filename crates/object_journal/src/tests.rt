@@ -10,7 +10,7 @@ use std::alloc::Global;
 use std::process::Abort;
 use std::test::Fail;
 
-pub(super) const BODY: &str =
+const BODY: &str =
     "{\"apiVersion\":\"demo.example/v1\",\"kind\":\"Widget\",\"spec\":{\"dimensions\":{\"size\":3},\"paused\":true}}";
 
 fn is_lawful_text(text: &Text) -> bool
@@ -35,23 +35,39 @@ fn is_widget(key: &Key) -> bool {
         && key.name.as_str() == "a"
 }
 
-pub(super) fn has_body(entry: &Entry, want: &[u8]) -> bool {
+// Whether the entry puts so many bytes of the body.
+pub(super) fn has_body(entry: &Entry, length: usize) -> bool {
     match &entry.change {
-        Change::Put { body, .. } => body.bytes() == want,
+        Change::Put { body, .. } => Some(body.bytes()) == BODY.as_bytes().get(..length),
         Change::Removal => false,
     }
 }
 
+fn is_frame_of_a_put(framed: &Framed) -> bool {
+    framed.revision() == 1 && Some(framed.bytes()) == file_of_a_put().get(17..)
+}
+
+fn is_framed(alloc: Global, entry: &Entry) -> bool {
+    match framed_of(alloc, entry) {
+        Some(framed) => is_frame_of_a_put(&framed),
+        None => false,
+    }
+}
+
 // The entry that is read from the bytes is framed as these bytes.
+fn is_read_and_framed(alloc: Global) -> bool {
+    let Ok(entries) = entries_of_a_put(alloc) else {
+        return false;
+    };
+    match entries.items().first() {
+        Some(entry) => is_widget(&entry.key) && has_body(entry, 95) && is_framed(alloc, entry),
+        None => false,
+    }
+}
+
 #[test]
 fn record_of_a_put(rt: HostRuntime) -> Result<(), Fail> {
-    let entries = entries_of_a_put(rt.alloc())?;
-    let entry = entries.items().first().ok_or("no entry")?;
-    assert!(rt; is_widget(&entry.key));
-    assert!(rt; has_body(entry, BODY.as_bytes()));
-    let framed = framed_of(rt.alloc(), entry)?;
-    assert_eq!(rt; framed.revision(), 1);
-    assert_eq!(rt; Some(framed.bytes()), file_of_a_put().get(17..));
+    assert!(rt; is_read_and_framed(rt.alloc()));
     Ok(())
 }
 
@@ -75,11 +91,25 @@ fn is_too_long(alloc: Global, entry: &Entry) -> bool {
     has_lawful_texts(&entry.key) && matches!(frame(alloc, entry), Err(FrameFault::TooLong))
 }
 
+fn is_refused_with_blanks(alloc: Global, entry: &Entry) -> bool {
+    match long_entry(alloc, &entry.key) {
+        Ok(long) => is_too_long(alloc, &long),
+        Err(_) => false,
+    }
+}
+
+fn is_long_put_refused(alloc: Global) -> bool {
+    let Ok(entries) = entries_of_a_put(alloc) else {
+        return false;
+    };
+    match entries.items().first() {
+        Some(entry) => is_refused_with_blanks(alloc, entry),
+        None => false,
+    }
+}
+
 #[test]
 fn record_that_is_too_long(rt: HostRuntime) -> Result<(), Fail> {
-    let entries = entries_of_a_put(rt.alloc())?;
-    let entry = entries.items().first().ok_or("no entry")?;
-    let long = long_entry(rt.alloc(), &entry.key)?;
-    assert!(rt; is_too_long(rt.alloc(), &long));
+    assert!(rt; is_long_put_refused(rt.alloc()));
     Ok(())
 }
