@@ -12,4 +12,4 @@ none (e ∷ es) is = absurd (omega (arith, is_true_equal (length (e ∷ es)) 0 i
 pub append-requires : goal.append-requires
 append-requires c =
     let empty : c.in-Ok.entries ≡ [] = sym c.items.ensures ∙ none c.items.result.now (sym c.is_empty.ensures ∙ c.if-not-is_empty.false) in
-    (c.in-Ok.entries, c.in-Ok.ensures.stands, subst (λ (es : List Entry). MayFollow c.in-Ok.journal.base es c.in_ok-framed.framed) (sym empty) (c.in_ok-framed.ensures c.in-Ok.journal.base))
+    (c.in-Ok.entries, c.in-Ok.ensures.stands, subst (λ (es : List Entry). MayFollow c.in-Ok.journal.base es c.in-Some.framed) (sym empty) (c.in-Some.ensures c.in-Ok.journal.base))

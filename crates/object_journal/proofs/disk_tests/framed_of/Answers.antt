@@ -9,7 +9,7 @@ use Rattle.object_journal.specs.declared.framed.FrameFault.TheVariants.{TooLong}
 use Rattle.object_journal.specs.Payload.{payload_of, longest_payload}
 use Rattle.object_journal.specs.Journal.{IsHeld, FewHeld, IsLawfulChange, HasLawfulTexts, MayFollow}
 use Rattle.object_journal.specs.EntryLaws.{not_empty, last_or_earlier}
-use Rattle.object_journal.proofs.disk_tests.first.Goals as goal
+use Rattle.object_journal.proofs.disk_tests.framed_of.Goals as goal
 
 its_key : (x : Entry) (k : Key) → IsHeld (x ∷ []) k → k ≡ x.key
 its_key x k h = ⊎_elim
@@ -40,7 +40,7 @@ not_both r f good bad = absurd (false≢true (sym (ap is_good bad) ∙ ap is_goo
 
 pub returns-in-Ok : goal.returns-in-Ok
 returns-in-Ok c =
-    let x = c.in_ok-entry.entry in
+    let x = c.args.entry.now in
     let within : length (payload_of x) ≤ longest_payload = ⊎_elim (λ long. absurd (not_both _ _ c.in-Ok.is (c.frame.ensures.too_long.1 long))) (λ le. le) (cases_lt longest_payload (length (payload_of x))) in
     subst (λ (f : Entry). (base : ℕ) → MayFollow base [] f) (sym c.in-Ok.ensures.ok)
     (first_follows x (c.is_first.ensures.revision c.if-not-is_first.false) (c.has_lawful_texts.ensures c.if-not-has_lawful_texts.false) within (c.is_first.ensures.change c.if-not-is_first.false))

@@ -4,11 +4,11 @@ use Rattle.std.proofs.lemmas.Bool.{false≢true}
 use Rattle.disk.specs.MemDisk.{mem_held, mem_pending}
 use Rattle.object_store.specs.StoreLaws.{recalled, with_room, may_with_room}
 use Rattle.object_store.proofs.CommitLemmas.{at_ok}
-use Rattle.object_store.proofs.tests.put.Goals as goal
+use Rattle.object_store.proofs.tests.put_of.Goals as goal
 
 pub commit-requires-clause-may : goal.commit-requires-clause-may
 commit-requires-clause-may c =
-    let (entries, h) = c.requires in
+    let (entries, h) = c.requires.stands in
     let held = mem_held c.args.disk.now in
     let pending = mem_pending c.args.disk.now in
     let old = c.args.store.now in
@@ -18,7 +18,7 @@ commit-requires-clause-may c =
 
 pub returns : goal.returns
 returns c = λ done.
-    let (entries, h) = c.requires in
+    let (entries, h) = c.requires.stands in
     let held = mem_held c.args.disk.now in
     let pending = mem_pending c.args.disk.now in
     let old = c.args.store.now in
