@@ -27,7 +27,8 @@ fn disk_with(alloc: Global, left: &[u8], fails: &[u64]) -> Result<MemDisk, Memor
     disk_of(alloc, left, fail)
 }
 
-// What an opening gives, with no word on the disk: so the tests know little, and are proved soon.
+// What an opening gives. The helpers say nothing of the disk, and no test holds one across its assertions: so they are
+// proved soon.
 fn opened(alloc: Global, disk: &mut MemDisk) -> Result<Entries, OpenFault> {
     match open_journal(alloc, disk) {
         Ok((_, entries)) => Ok(entries),
@@ -50,9 +51,9 @@ pub(super) fn entries_of_a_put(alloc: Global) -> Result<Entries, OpenFault> {
     }
 }
 
-// How many entries an opening of these bytes gives, where the calls with these numbers fail.
-fn count_of(alloc: Global, left: &[u8], fails: &[u64]) -> Result<usize, OpenFault> {
-    match disk_with(alloc, left, fails) {
+// How many entries an opening of no bytes gives, where this call fails.
+fn count_with(alloc: Global, call: u64) -> Result<usize, OpenFault> {
+    match disk_with(alloc, b"", &[call]) {
         Ok(mut disk) => count(alloc, &mut disk),
         Err(_) => Err(OpenFault::Memory),
     }
@@ -60,10 +61,12 @@ fn count_of(alloc: Global, left: &[u8], fails: &[u64]) -> Result<usize, OpenFaul
 
 fn is_refused(answer: Result<usize, OpenFault>, place: u64) -> bool {
     match answer {
-        Err(OpenFault::NotAStore {
-            file: File::Left,
-            at,
-        }) => at == place,
+        Err(
+            OpenFault::NotAStore {
+                file: File::Left,
+                at,
+            },
+        ) => at == place,
         _ => false,
     }
 }
@@ -280,10 +283,10 @@ fn counts_of_append(alloc: Global, disk: &mut MemDisk, ends: bool, pick: u64) ->
     }
 }
 
-// The counts on a disk on which the calls with these numbers fail.
-fn counts_with(alloc: Global, fails: &[u64], pick: u64) -> u64 {
-    match disk_with(alloc, b"", fails) {
-        Ok(mut disk) => counts_of_append(alloc, &mut disk, !fails.is_empty(), pick),
+// The counts on a disk on which the call with this number fails. Calls are counted from 1, so that 0 is none.
+fn counts_with(alloc: Global, call: u64, pick: u64) -> u64 {
+    match disk_with(alloc, b"", &[call]) {
+        Ok(mut disk) => counts_of_append(alloc, &mut disk, call != 0, pick),
         Err(_) => 0,
     }
 }
@@ -293,10 +296,10 @@ fn counts_with(alloc: Global, fails: &[u64], pick: u64) -> u64 {
 #[test]
 fn stops(rt: HostRuntime) -> Result<(), Fail> {
     let alloc = rt.alloc();
-    assert_eq!(rt; counts_with(alloc, &[], 0), 1_00000_00001);
-    assert_eq!(rt; counts_with(alloc, &[], 1), 1_00000_00011);
-    assert_eq!(rt; counts_with(alloc, &[], 79), 1_00000_00011);
-    assert_eq!(rt; counts_with(alloc, &[], 255), 1_00000_00001);
+    assert_eq!(rt; counts_with(alloc, 0, 0), 1_00000_00001);
+    assert_eq!(rt; counts_with(alloc, 0, 1), 1_00000_00011);
+    assert_eq!(rt; counts_with(alloc, 0, 79), 1_00000_00011);
+    assert_eq!(rt; counts_with(alloc, 0, 255), 1_00000_00001);
     Ok(())
 }
 
@@ -305,14 +308,14 @@ fn stops(rt: HostRuntime) -> Result<(), Fail> {
 #[test]
 fn failures_of_an_append(rt: HostRuntime) -> Result<(), Fail> {
     let alloc = rt.alloc();
-    assert_eq!(rt; counts_with(alloc, &[8], 79), 1_00000_00);
-    assert_eq!(rt; counts_with(alloc, &[9], 79), 1_00000_000);
-    assert_eq!(rt; counts_with(alloc, &[10], 79), 1_00000_0001);
+    assert_eq!(rt; counts_with(alloc, 8, 79), 1_00000_00);
+    assert_eq!(rt; counts_with(alloc, 9, 79), 1_00000_000);
+    assert_eq!(rt; counts_with(alloc, 10, 79), 1_00000_0001);
     Ok(())
 }
 
 fn fails_to_open(alloc: Global, call: u64) -> bool {
-    matches!(count_of(alloc, b"", &[call]), Err(OpenFault::Disk))
+    matches!(count_with(alloc, call), Err(OpenFault::Disk))
 }
 
 #[test]
