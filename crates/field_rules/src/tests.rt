@@ -22,11 +22,21 @@ fn release(word: &str) -> Result<Minor, Fail> {
     }
 }
 
+// The words of an entry, empty where it has no more.
+fn words_of<'a>(entry: &'a str) -> [&'a str; 7] {
+    let mut words = entry.split_whitespace();
+    let mut list = [""; 7];
+    for i in 0..7 {
+        list[i] = words.next().unwrap_or("");
+    }
+    list
+}
+
 fn gate(alloc: Global, words: &str) -> Result<GateEntry, Fail> {
-    let mut words = words.split_whitespace();
+    let [name, since, ..] = words_of(words);
     Ok(GateEntry {
-        name: Text::from_str(alloc, words.next().unwrap_or(""))?,
-        since: release(words.next().unwrap_or(""))?,
+        since: release(since)?,
+        name: Text::from_str(alloc, name)?,
         change: GateChange::Gone,
     })
 }
@@ -41,12 +51,12 @@ fn introduced(alloc: Global) -> Result<ApiChange, Fail> {
 }
 
 fn api(alloc: Global, words: &str, change: ApiChange) -> Result<ApiEntry, Fail> {
-    let mut words = words.split_whitespace();
+    let [resource, version, since, ..] = words_of(words);
     Ok(ApiEntry {
+        since: release(since)?,
         group: Text::from_str(alloc, "g")?,
-        resource: Text::from_str(alloc, words.next().unwrap_or(""))?,
-        version: Text::from_str(alloc, words.next().unwrap_or(""))?,
-        since: release(words.next().unwrap_or(""))?,
+        resource: Text::from_str(alloc, resource)?,
+        version: Text::from_str(alloc, version)?,
         change,
     })
 }
@@ -70,19 +80,14 @@ fn guard(alloc: Global, word: &str) -> Result<Option<Text>, Fail> {
 }
 
 fn field(alloc: Global, words: &str) -> Result<Field, Fail> {
-    let mut words = words.split_whitespace();
-    let resource = words.next().unwrap_or("");
-    let id = words.next().unwrap_or("");
-    let since = words.next().unwrap_or("");
-    let ty = words.next().unwrap_or("");
-    let last = words.next().unwrap_or("");
+    let [resource, id, since, ty, last, ..] = words_of(words);
     Ok(Field {
-        group: Text::from_str(alloc, "g")?,
-        resource: Text::from_str(alloc, resource)?,
-        id: Text::from_str(alloc, id)?,
         since: release(since)?,
         ty: field_type(ty)?,
         required: last == "required",
+        group: Text::from_str(alloc, "g")?,
+        resource: Text::from_str(alloc, resource)?,
+        id: Text::from_str(alloc, id)?,
         gate: guard(alloc, last)?,
     })
 }
@@ -119,22 +124,15 @@ fn default(alloc: Global, word: &str) -> Result<Option<FieldValue>, Fail> {
 }
 
 fn spell(alloc: Global, words: &str) -> Result<Spell, Fail> {
-    let mut words = words.split_whitespace();
-    let resource = words.next().unwrap_or("");
-    let version = words.next().unwrap_or("");
-    let field = words.next().unwrap_or("");
-    let since = words.next().unwrap_or("");
-    let spelled = words.next().unwrap_or("");
-    let shown = words.next().unwrap_or("");
-    let value = words.next().unwrap_or("");
+    let [resource, version, field, since, spelled, shown, value] = words_of(words);
     Ok(Spell {
+        since: release(since)?,
+        form: form(shown)?,
         group: Text::from_str(alloc, "g")?,
         resource: Text::from_str(alloc, resource)?,
         version: Text::from_str(alloc, version)?,
         field: Text::from_str(alloc, field)?,
-        since: release(since)?,
         path: path(alloc, spelled)?,
-        form: form(shown)?,
         default: default(alloc, value)?,
     })
 }
