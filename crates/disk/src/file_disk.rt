@@ -39,6 +39,12 @@ impl fmt::Display for AtFault {
 impl Error for AtFault {}
 
 impl From<io::Error> for AtFault {
+    ghost use Rattle.std.specs.IoError.{error_kind};
+    ghost use Rattle.std.specs.declared.io.ErrorKind.TheVariants.{OutOfMemory};
+    ghost use Rattle.disk.specs.declared.file_disk.AtFault.TheVariants.{Memory as WantOfMemory};
+
+    ghost from_gives = { λ error fault. (fault ≡ WantOfMemory) ↔ (error_kind error ≡ OutOfMemory) };
+
     fn from(error: io::Error) -> AtFault {
         match error.kind() {
             ErrorKind::OutOfMemory => AtFault::Memory,
