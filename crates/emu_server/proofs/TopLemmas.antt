@@ -98,28 +98,28 @@ answer_from words bytes c status.Flags text asks h = (c, asks, h)
 answer_from words bytes c status.Store text asks h = (c, asks, h)
 answer_from words bytes c status.Spent text asks h = (c, asks, h)
 
-whole_end : (words : List (List ℕ)) (bytes : List ℕ) (s : Status) (old new : Option (List ℕ)) (text : List ℕ) → IsAnswer words bytes s text → Appends old new text → IsEnd words bytes s old new
-whole_end words bytes status.Usage old new text h written = (text, h, written)
-whole_end words bytes status.Ok old new text h written = (text, h, written)
-whole_end words bytes status.Memory old new text h written = absurd (idle h.0 bytes status.Memory text tt h.2)
-whole_end words bytes status.ReadFault old new text h written = absurd (idle h.0 bytes status.ReadFault text tt h.2)
-whole_end words bytes status.WriteFault old new text h written = absurd (idle h.0 bytes status.WriteFault text tt h.2)
-whole_end words bytes status.DiskFault old new text h written = (text, h, written)
-whole_end words bytes status.FrontFault old new text h written = (text, h, written)
-whole_end words bytes status.History old new text h written = (text, h, written)
-whole_end words bytes status.Flags old new text h written = (text, h, written)
-whole_end words bytes status.Store old new text h written = (text, h, written)
-whole_end words bytes status.Spent old new text h written = (text, h, written)
+whole_end : (words : List (List ℕ)) (bytes : List ℕ) (F : Type 0) (s : Status) (old new : Option (List ℕ)) (text : List ℕ) → IsAnswer words bytes s text → Appends old new text → IsEnd words bytes F s old new
+whole_end words bytes F status.Usage old new text h written = (text, h, written)
+whole_end words bytes F status.Ok old new text h written = (text, h, written)
+whole_end words bytes F status.Memory old new text h written = absurd (idle h.0 bytes status.Memory text tt h.2)
+whole_end words bytes F status.ReadFault old new text h written = absurd (idle h.0 bytes status.ReadFault text tt h.2)
+whole_end words bytes F status.WriteFault old new text h written = absurd (idle h.0 bytes status.WriteFault text tt h.2)
+whole_end words bytes F status.DiskFault old new text h written = (text, h, written)
+whole_end words bytes F status.FrontFault old new text h written = (text, h, written)
+whole_end words bytes F status.History old new text h written = (text, h, written)
+whole_end words bytes F status.Flags old new text h written = (text, h, written)
+whole_end words bytes F status.Store old new text h written = (text, h, written)
+whole_end words bytes F status.Spent old new text h written = (text, h, written)
 
-pub answer_ends : (words : List (List ℕ)) (bytes : List ℕ) (s r : Status) (old new : Option (List ℕ)) (text : List ℕ) → IsAnswer words bytes s text → IsWritten old new r s text → IsEnd words bytes r old new
-answer_ends words bytes s r old new text h (inl w) = subst (λ x. IsEnd words bytes x old new) (sym w.0) (whole_end words bytes s old new text h w.1)
-answer_ends words bytes s r old new text h (inr w) = subst (λ x. IsEnd words bytes x old new) (sym w.0) (text, inl (s, h), w.1)
+pub answer_ends : (words : List (List ℕ)) (bytes : List ℕ) (F : Type 0) (s r : Status) (old new : Option (List ℕ)) (text : List ℕ) → IsAnswer words bytes s text → IsWritten old new r s text → IsEnd words bytes F r old new
+answer_ends words bytes F s r old new text h (inl w) = subst (λ x. IsEnd words bytes F x old new) (sym w.0) (whole_end words bytes F s old new text h w.1)
+answer_ends words bytes F s r old new text h (inr w) = subst (λ x. IsEnd words bytes F x old new) (sym w.0) (text, inl (s, h), w.1)
 
-pub taken_ends : (words : List (List ℕ)) (c : Command) (a b : Option (List ℕ)) (v : List ℕ) (s r : Status) (old new : Option (List ℕ)) (text : List ℕ) → AsksFor words c → Consumes a b v → (length v ≤ 1048576 → IsAtEnd b)
-    → IsAnswerTo c v s text → IsWritten old new r s text → IsEnd words (held a v) r old new
-taken_ends words c a b v s r old new text asks taken end h w =
-    answer_ends words (held a v) s r old new text (answer_from words (held a v) c s text asks (answer_held c a b v s text taken end h)) w
+pub taken_ends : (words : List (List ℕ)) (F : Type 0) (c : Command) (a b : Option (List ℕ)) (v : List ℕ) (s r : Status) (old new : Option (List ℕ)) (text : List ℕ) → AsksFor words c → Consumes a b v → (length v ≤ 1048576 → IsAtEnd b)
+    → IsAnswerTo c v s text → IsWritten old new r s text → IsEnd words (held a v) F r old new
+taken_ends words F c a b v s r old new text asks taken end h w =
+    answer_ends words (held a v) F s r old new text (answer_from words (held a v) c s text asks (answer_held c a b v s text taken end h)) w
 
-pub read_fault_ends : (words : List (List ℕ)) (c : Command) (bytes : List ℕ) (r : Status) (old new : Option (List ℕ)) → AsksFor words c → IsWritten old new r status.ReadFault read_fault_line → IsEnd words bytes r old new
-read_fault_ends words c bytes r old new asks (inl w) = subst (λ x. IsEnd words bytes x old new) (sym w.0) ((c, asks), w.1)
-read_fault_ends words c bytes r old new asks (inr w) = subst (λ x. IsEnd words bytes x old new) (sym w.0) (read_fault_line, inr ((c, asks), λ i. read_fault_line), w.1)
+pub read_fault_ends : (words : List (List ℕ)) (c : Command) (bytes : List ℕ) (F : Type 0) (r : Status) (old new : Option (List ℕ)) → AsksFor words c → F → IsWritten old new r status.ReadFault read_fault_line → IsEnd words bytes F r old new
+read_fault_ends words c bytes F r old new asks failed (inl w) = subst (λ x. IsEnd words bytes F x old new) (sym w.0) ((c, asks), w.1)
+read_fault_ends words c bytes F r old new asks failed (inr w) = subst (λ x. IsEnd words bytes F x old new) (sym w.0) (read_fault_line, inr ((c, asks), failed, λ i. read_fault_line), w.1)

@@ -1,5 +1,5 @@
 //! Where bytes come from and where they go.
-ghost use Rattle.std.specs.Prelude.{ℕ, List};
+ghost use Rattle.std.specs.Prelude.{◌≡◌, ℕ, List, OnOk};
 ghost use Rattle.std.specs.declared.option.Option.{Option};
 ghost use Rattle.std.specs.Io.{ReadsAtMost};
 ghost use Rattle.std.specs.Io.KnownBytes.{ReadConsumes};
@@ -21,7 +21,8 @@ pub trait Source {
     fn read(&mut self, into: &mut [u8]) -> Result<usize, Failed>
         ensures bound { ReadsAtMost result into.new }
         ensures bytes { ReadConsumes (left self.old) (left self.new) result into.new }
-        ensures cause { HasCause (faults self.old) (faults self.new) result };
+        ensures cause { HasCause (faults self.old) (faults self.new) result }
+        ensures fine { OnOk result (faults self.new ≡ faults self.old) };
 }
 
 /// Where bytes go.
@@ -35,5 +36,6 @@ pub trait Sink {
     /// Appends all the bytes, or at `Failed` a front of them.
     fn write(&mut self, bytes: &[u8]) -> Result<(), Failed>
         ensures bytes { WritesWhole (written self.old) (written self.new) result bytes.now }
-        ensures cause { HasCause (faults self.old) (faults self.new) result };
+        ensures cause { HasCause (faults self.old) (faults self.new) result }
+        ensures fine { OnOk result (faults self.new ≡ faults self.old) };
 }

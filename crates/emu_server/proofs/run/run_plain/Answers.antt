@@ -1,12 +1,12 @@
 -- The end is right for the bytes that the source held.
-use Rattle.std.proofs.Common.{[], sym, subst, string_bytes, refl, arith}
+use Rattle.std.proofs.Common.{rules, [], sym, subst, string_bytes, refl, arith}
 use Rattle.std.proofs.KnownBytes.{Keeps-refl}
 use Rattle.emu_server.specs.Answer.{IsAnswerTo}
 use Rattle.emu_server.proofs.TopLemmas.{held, held-known, answer_ends, taken_ends, read_fault_ends}
 use Rattle.emu_server.proofs.run.run_plain.Goals as goal
 
 pub returns-in_default-clause-ends : goal.returns-in_default-clause-ends
-returns-in_default-clause-ends g c = (held (g.S.Source.left c.args.history.now) [], held-known _ _, answer_ends _ _ _ _ _ _ _ (c.in_default.ensures.none, refl) c.end_with.ensures.written)
+returns-in_default-clause-ends g c = (held (g.S.Source.left c.args.history.now) [], held-known _ _, answer_ends _ _ _ _ _ _ _ _ (c.in_default.ensures.none, refl) c.end_with.ensures.written)
 
 pub returns-in-Ok-answer_to-clause-ends : goal.returns-in-Ok-answer_to-clause-ends
 returns-in-Ok-answer_to-clause-ends g c =
@@ -16,14 +16,14 @@ returns-in-Ok-answer_to-clause-ends g c =
     subst (λ t. IsAnswerTo c.in-Some.command c.in-Ok.bytes.items c.in-Ok-answer_to.answer.status t) (sym c.as_bytes.ensures.value) taken in (
       held (g.S.Source.left c.args.history.now) c.in-Ok.bytes.items,
       held-known _ _,
-      taken_ends _ c.in-Some.command _ _ c.in-Ok.bytes.items _ _ _ _ _ c.in-Some.ensures.some c.in-Ok.ensures.bytes (λ short. c.in-Ok.ensures.end (omega arith)) written c.end_with-in-Ok-answer_to.ensures.written,
+      taken_ends _ _ c.in-Some.command _ _ c.in-Ok.bytes.items _ _ _ _ _ c.in-Some.ensures.some c.in-Ok.ensures.bytes (λ short. c.in-Ok.ensures.end (omega arith)) written c.end_with-in-Ok-answer_to.ensures.written,
     )
 
 pub returns-in-Ok-clause-ends : goal.returns-in-Ok-clause-ends
 returns-in-Ok-clause-ends g c = (held (g.S.Source.left c.args.history.now) [], held-known _ _, Keeps-refl _)
 
 pub returns-in-Err-Read-clause-ends : goal.returns-in-Err-Read-clause-ends
-returns-in-Err-Read-clause-ends g c = (held (g.S.Source.left c.args.history.now) [], held-known _ _, read_fault_ends _ c.in-Some.command _ _ _ _ c.in-Some.ensures.some c.end_with-in-Err-Read.ensures.written)
+returns-in-Err-Read-clause-ends g c = (held (g.S.Source.left c.args.history.now) [], held-known _ _, read_fault_ends _ c.in-Some.command _ _ _ _ _ c.in-Some.ensures.some (search rules) c.end_with-in-Err-Read.ensures.written)
 
 pub returns-clause-ends : goal.returns-clause-ends
 returns-clause-ends g c = (held (g.S.Source.left c.args.history.now) [], held-known _ _, Keeps-refl _)
