@@ -39,7 +39,8 @@ pub trait Disk {
         ensures same { tells → Unchanged (held self.old) (held self.new) (pending self.old) (pending self.new) (clock self.old) (may_leave self.old) (may_leave self.new) }
         ensures clock { clock self.new ≡ clock self.old }
         ensures beside { beside self.new ≡ beside self.old }
-        ensures cause { HasCause (faults self.old) (faults self.new) result };
+        ensures cause { HasCause (faults self.old) (faults self.new) result }
+        ensures fine { OnOk result (faults self.new ≡ faults self.old) };
 
     /// Fills `into` with the bytes of the file from `at` on. After `Failed` the content of `into` is unknown.
     fn read_at(&mut self, file: File, at: u64, into: &mut [u8]) -> Result<(), Failed>
@@ -48,7 +49,8 @@ pub trait Disk {
         ensures same { tells → Unchanged (held self.old) (held self.new) (pending self.old) (pending self.new) (clock self.old) (may_leave self.old) (may_leave self.new) }
         ensures clock { clock self.new ≡ clock self.old }
         ensures beside { beside self.new ≡ beside self.old }
-        ensures cause { HasCause (faults self.old) (faults self.new) result };
+        ensures cause { HasCause (faults self.old) (faults self.new) result }
+        ensures fine { OnOk result (faults self.new ≡ faults self.old) };
 
     /// Puts the bytes into the file at `at`. After `Failed` the range holds any bytes, and the length is between the old
     /// one and the one that `Ok` would give. A write that would reach the end of lengths fails and leaves the content.
@@ -65,7 +67,8 @@ pub trait Disk {
         ensures clock { Ticks (clock self.old) (clock self.new) result }
         ensures at_end { tells → clock self.old ≡ 2 ^ 64 - 1 → Unchanged (held self.old) (held self.new) (pending self.old) (pending self.new) (clock self.old) (may_leave self.old) (may_leave self.new) }
         ensures beside { beside self.new ≡ beside self.old }
-        ensures cause { HasCause (faults self.old) (faults self.new) result };
+        ensures cause { HasCause (faults self.old) (faults self.new) result }
+        ensures fine { OnOk result (faults self.new ≡ faults self.old) };
 
     /// Shortens the file. After `Failed` it is as it was or shortened.
     fn cut(&mut self, file: File, to: u64) -> Result<(), Failed>
@@ -79,7 +82,8 @@ pub trait Disk {
         ensures clock { Ticks (clock self.old) (clock self.new) result }
         ensures at_end { tells → clock self.old ≡ 2 ^ 64 - 1 → Unchanged (held self.old) (held self.new) (pending self.old) (pending self.new) (clock self.old) (may_leave self.old) (may_leave self.new) }
         ensures beside { beside self.new ≡ beside self.old }
-        ensures cause { HasCause (faults self.old) (faults self.new) result };
+        ensures cause { HasCause (faults self.old) (faults self.new) result }
+        ensures fine { OnOk result (faults self.new ≡ faults self.old) };
 
     /// Makes the file still. After `Failed` what was pending is pending.
     fn sync(&mut self, file: File) -> Result<(), Failed>
@@ -92,7 +96,8 @@ pub trait Disk {
         ensures clock { Ticks (clock self.old) (clock self.new) result }
         ensures at_end { tells → clock self.old ≡ 2 ^ 64 - 1 → Unchanged (held self.old) (held self.new) (pending self.old) (pending self.new) (clock self.old) (may_leave self.old) (may_leave self.new) }
         ensures beside { beside self.new ≡ beside self.old }
-        ensures cause { HasCause (faults self.old) (faults self.new) result };
+        ensures cause { HasCause (faults self.old) (faults self.new) result }
+        ensures fine { OnOk result (faults self.new ≡ faults self.old) };
 
     /// Each image of the present is one of those that the model describes.
     ghost images_now: { (d : Self) (images : Images) → tells → may_leave d (clock d) images → Each (pending d) images };

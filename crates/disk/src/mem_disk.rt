@@ -344,6 +344,7 @@ impl Disk for MemDisk {
         ensures same { Unchanged (mem_held self.old) (mem_held self.new) (mem_pending self.old) (mem_pending self.new) self.old.clock (mem_may_leave self.old) (mem_may_leave self.new) }
         ensures clock { self.new.clock ≡ self.old.clock }
         ensures cause { HasCause self.old.faults self.new.faults result }
+        ensures fine { OnOk result (self.new.faults ≡ self.old.faults) }
 
         // The listed calls fail, and no others.
         ensures listed { IsErr result ↔ IsListed self.old }
@@ -362,6 +363,7 @@ impl Disk for MemDisk {
         ensures same { Unchanged (mem_held self.old) (mem_held self.new) (mem_pending self.old) (mem_pending self.new) self.old.clock (mem_may_leave self.old) (mem_may_leave self.new) }
         ensures clock { self.new.clock ≡ self.old.clock }
         ensures cause { HasCause self.old.faults self.new.faults result }
+        ensures fine { OnOk result (self.new.faults ≡ self.old.faults) }
         ensures listed { IsErr result ↔ IsListed self.old }
         ensures ok { OnOk result (self.new ≡ called self.old) }
         ensures err { OnErr result (self.new ≡ blamed (called self.old)) }
@@ -388,6 +390,7 @@ impl Disk for MemDisk {
         ensures clock { Ticks self.old.clock self.new.clock result }
         ensures at_end { self.old.clock ≡ 2 ^ 64 - 1 → Unchanged (mem_held self.old) (mem_held self.new) (mem_pending self.old) (mem_pending self.new) self.old.clock (mem_may_leave self.old) (mem_may_leave self.new) }
         ensures cause { HasCause self.old.faults self.new.faults result }
+        ensures fine { OnOk result (self.new.faults ≡ self.old.faults) }
 
         // At `Failed` the files hold what they held.
         ensures kept { OnErr result (mem_held self.new ≡ mem_held self.old) }
@@ -407,6 +410,7 @@ impl Disk for MemDisk {
         ensures clock { Ticks self.old.clock self.new.clock result }
         ensures at_end { self.old.clock ≡ 2 ^ 64 - 1 → Unchanged (mem_held self.old) (mem_held self.new) (mem_pending self.old) (mem_pending self.new) self.old.clock (mem_may_leave self.old) (mem_may_leave self.new) }
         ensures cause { HasCause self.old.faults self.new.faults result }
+        ensures fine { OnOk result (self.new.faults ≡ self.old.faults) }
 
         // At `Failed` the files hold what they held.
         ensures kept { OnErr result (mem_held self.new ≡ mem_held self.old) }
@@ -425,6 +429,7 @@ impl Disk for MemDisk {
         ensures clock { Ticks self.old.clock self.new.clock result }
         ensures at_end { self.old.clock ≡ 2 ^ 64 - 1 → Unchanged (mem_held self.old) (mem_held self.new) (mem_pending self.old) (mem_pending self.new) self.old.clock (mem_may_leave self.old) (mem_may_leave self.new) }
         ensures cause { HasCause self.old.faults self.new.faults result }
+        ensures fine { OnOk result (self.new.faults ≡ self.old.faults) }
         ensures call { IsSyncCall self.old self.new file result }
     {
         self.sync_call(file)

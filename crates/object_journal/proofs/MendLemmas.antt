@@ -106,7 +106,7 @@ module _ {D : Type 0} (clock : D → ℕ) (may_leave : D → ℕ → Images → 
 
   pub none_moments : (old new : D) (base : ℕ) (es : List Entry) → length (held old chosen) ≤ 17 → IsJournal (held old chosen) base es
       → Moments clock may_leave old new (λ _. LeavesNone (pending old) base) → Moments clock may_leave old new (λ _. LeavesMeaning (held old) (pending old))
-  none_moments old new base es short j m = weaker clock may_leave old new _ _ (λ t i above le w. record { file = same_none (held old chosen) (i chosen) base es j (no_entries (held old chosen) base es short j) w.file; others = w.others }) m
+  none_moments old new base es short j m = weaker clock may_leave old new _ _ (λ t i above le w. record { file = same_none (held old chosen) (i chosen) base es j (no_entries (held old chosen) base es short j) w.file; long = λ more. absurd (omega (arith, more, short)); others = w.others }) m
 
   pub gate_alone_moments : (old new : D) (base : ℕ) (es : List Entry) → length (held old chosen) ≡ 17 → IsJournal (held old chosen) base es
       → ((b : ℕ) → IsHeaded (held old chosen) b → Moments clock may_leave old new (λ _. LeavesNone (pending old) b)) → Moments clock may_leave old new (λ _. LeavesMeaning (held old) (pending old))

@@ -22,11 +22,12 @@ same_bytes b c is = record { means = λ base es j. subst (λ (t : List ℕ). IsJ
 
 -- what a still file may leave
 pub leaves_still : (held : Images) (pending : File → Pending) (i : Images) → IsStill held pending chosen → Each pending i → LeavesMeaning held pending i
-leaves_still held pending i still each = record { file = same_bytes (held chosen) (i chosen) (image_now held pending chosen i still each); others = λ f other. each f }
+leaves_still held pending i still each = record { file = same_bytes (held chosen) (i chosen) (image_now held pending chosen i still each); long = λ more. image_now held pending chosen i still each; others = λ f other. each f }
 
 leaves_from : (held_old held_mid : Images) (pending_old pending_mid : File → Pending) (i : Images) → held_mid ≡ held_old → OthersWithin chosen pending_old pending_mid → LeavesMeaning held_mid pending_mid i → LeavesMeaning held_old pending_old i
 leaves_from held_old held_mid pending_old pending_mid i same within l = record {
   file = subst (λ (h : Images). MeansSame (h chosen) (i chosen)) same l.file;
+  long = subst (λ (h : Images). 17 < length (h chosen) → i chosen ≡ h chosen) same l.long;
   others = λ f other. within_image _ _ (i f) (within f other) (l.others f other);
 }
 

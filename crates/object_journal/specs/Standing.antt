@@ -1,8 +1,8 @@
 -- A journal that stands on a disk, and what a stop during its calls may leave.
-use Rattle.std.specs.Prelude.{◌≡◌, ◌≢◌, ◌⊎◌, ◌↔◌, ℕ, ◌≤◌, ◌<◌, false, List, [], ◌∷◌, ◌++◌, length}
+use Rattle.std.specs.Prelude.{◌≡◌, ◌≢◌, ◌⊎◌, ◌↔◌, ℕ, ◌+◌, ◌≤◌, ◌<◌, false, List, [], ◌∷◌, ◌++◌, length}
 use Rattle.disk.specs.declared.file.File.{File}
 use Rattle.disk.specs.declared.file.File.TheVariants.{Left}
-use Rattle.disk.specs.Images.{Pending, Images, IsImage, Each, IsStill, OthersHold, OthersWithin, same_file, end_of_lengths, after_write, resting}
+use Rattle.disk.specs.Images.{Pending, Images, IsImage, Each, IsStill, OthersHold, OthersWithin, same_file, end_of_lengths, after_write, patched, resting}
 use Rattle.disk.specs.Moments.{Moments}
 use Rattle.object_journal.specs.declared.entry.Entry.{Entry}
 use Rattle.object_journal.specs.declared.appending.Journal.{Journal}
@@ -42,6 +42,10 @@ pub record LeavesWrite (held : Images) (pending : File → Pending) (at n : ℕ)
 
 -- ---- an append
 
+-- the file once the record of an entry stands behind the closed gate at the place, and that gate is opened
+abbrev pub appended : List ℕ → ℕ → Entry → List ℕ
+appended bytes place new = patched (patched bytes (place + 1) (frame_bytes new ++ closed_gate ∷ [])) place (open_gate ∷ [])
+
 -- the bytes are these entries, with the closed gate at the place
 pub record IsGatedAt (bytes : List ℕ) (base : ℕ) (entries : List Entry) (place : ℕ) : Type 0 where
   pub gated : IsGated bytes base entries
@@ -79,9 +83,10 @@ pub record IsMended (old : List ℕ) (base : ℕ) (new : List ℕ) : Type 0 wher
   pub short : length old ≤ 17 → new ≡ header_of base ++ closed_gate ∷ []
   pub long : 17 < length old → new ≡ old
 
--- a stop leaves the meaning of what the file held
+-- a stop leaves the meaning of what the file held, and a file that needs no mending as it is
 pub record LeavesMeaning (held : Images) (pending : File → Pending) (images : Images) : Type 0 where
   pub file : MeansSame (held chosen) (images chosen)
+  pub long : 17 < length (held chosen) → images chosen ≡ held chosen
   pub others : OthersMayBe pending images
 
 -- Up to the end of the first sync a stop leaves what was pending, and later what the file held, or what means the same.

@@ -59,6 +59,7 @@ fn put_header<D: Disk>(disk: &mut D) -> Result<(), Failed>
     ensures others { D.tells → OthersStay (D.held disk.old) (D.held disk.new) (D.pending disk.old) (D.pending disk.new) }
     ensures beside { D.beside disk.new ≡ D.beside disk.old }
     ensures cause { HasCause (D.faults disk.old) (D.faults disk.new) result }
+    ensures fine { OnOk result (D.faults disk.new ≡ D.faults disk.old) }
 {
     put_still(disk, 0, b"KEMUJNL1\0\0\0\0\0\0\0\0")
 }
@@ -73,6 +74,7 @@ fn put_gate<D: Disk>(disk: &mut D) -> Result<(), Failed>
     ensures others { D.tells → OthersStay (D.held disk.old) (D.held disk.new) (D.pending disk.old) (D.pending disk.new) }
     ensures beside { D.beside disk.new ≡ D.beside disk.old }
     ensures cause { HasCause (D.faults disk.old) (D.faults disk.new) result }
+    ensures fine { OnOk result (D.faults disk.new ≡ D.faults disk.old) }
 {
     put_still(disk, 16, &[CLOSED_GATE])
 }
@@ -87,6 +89,7 @@ fn mend<D: Disk>(disk: &mut D, len: usize) -> Result<(), Failed>
     ensures others { D.tells → OthersStay (D.held disk.old) (D.held disk.new) (D.pending disk.old) (D.pending disk.new) }
     ensures beside { D.beside disk.new ≡ D.beside disk.old }
     ensures cause { HasCause (D.faults disk.old) (D.faults disk.new) result }
+    ensures fine { OnOk result (D.faults disk.new ≡ D.faults disk.old) }
 {
     if len > 17 {
         return Ok(());
@@ -107,6 +110,7 @@ fn read_whole<D: Disk>(alloc: Global, disk: &mut D) -> Result<Vec<u8>, OpenFault
     ensures beside { D.beside disk.new ≡ D.beside disk.old }
     ensures later { D.faults disk.old ≤ D.faults disk.new }
     ensures disk { IsErrOf result OpenFault.Disk → Rose (D.faults disk.old) (D.faults disk.new) }
+    ensures fine { ¬ IsErrOf result OpenFault.Disk → D.faults disk.new ≡ D.faults disk.old }
     ensures sound { (file : FileS) (at : ℕ) → ¬ IsErrOf result (NotAStore file at) }
 {
     let Ok(len) = disk.len(CHOSEN) else {
@@ -135,6 +139,7 @@ fn open_still<G: Gather, D: Disk>(alloc: Global, disk: &mut D) -> Result<(Journa
     ensures beside { D.beside disk.new ≡ D.beside disk.old }
     ensures later { D.faults disk.old ≤ D.faults disk.new }
     ensures disk { IsErrOf result OpenFault.Disk → Rose (D.faults disk.old) (D.faults disk.new) }
+    ensures fine { ¬ IsErrOf result OpenFault.Disk → D.faults disk.new ≡ D.faults disk.old }
 {
     let bytes = match read_whole(alloc, disk) {
         Ok(bytes) => bytes,
@@ -174,6 +179,7 @@ pub fn open_journal_into<G: Gather, D: Disk>(
     ensures beside { D.beside disk.new ≡ D.beside disk.old }
     ensures later { D.faults disk.old ≤ D.faults disk.new }
     ensures disk { IsErrOf result OpenFault.Disk → Rose (D.faults disk.old) (D.faults disk.new) }
+    ensures fine { ¬ IsErrOf result OpenFault.Disk → D.faults disk.new ≡ D.faults disk.old }
 {
     match disk.sync(CHOSEN) {
         Ok(()) => open_still(alloc, disk),
@@ -196,6 +202,7 @@ pub fn open_journal<D: Disk>(alloc: Global, disk: &mut D) -> Result<(Journal, En
     ensures beside { D.beside disk.new ≡ D.beside disk.old }
     ensures later { D.faults disk.old ≤ D.faults disk.new }
     ensures disk { IsErrOf result OpenFault.Disk → Rose (D.faults disk.old) (D.faults disk.new) }
+    ensures fine { ¬ IsErrOf result OpenFault.Disk → D.faults disk.new ≡ D.faults disk.old }
 {
     open_journal_into(alloc, disk)
 }

@@ -22,6 +22,7 @@ pub(crate) fn put_still<D: Disk>(disk: &mut D, at: u64, bytes: &[u8]) -> Result<
     ensures others { D.tells → OthersStay (D.held disk.old) (D.held disk.new) (D.pending disk.old) (D.pending disk.new) }
     ensures beside { D.beside disk.new ≡ D.beside disk.old }
     ensures cause { HasCause (D.faults disk.old) (D.faults disk.new) result }
+    ensures fine { OnOk result (D.faults disk.new ≡ D.faults disk.old) }
 {
     disk.write_at(CHOSEN, at, bytes)?;
     disk.sync(CHOSEN)

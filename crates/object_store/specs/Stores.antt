@@ -8,7 +8,7 @@ use Rattle.object_journal.specs.declared.entry.Change.{Change}
 use Rattle.object_journal.specs.declared.entry.Change.TheVariants.{Put, Removal}
 use Rattle.object_journal.specs.declared.appending.Journal.{Journal}
 use Rattle.object_journal.specs.Journal.{AreLawful, IsJournal, HasLawfulTexts, MayFollow, last_revision, most_keys, revision_after}
-use Rattle.object_journal.specs.Standing.{chosen, StandsOn, OthersMayBe}
+use Rattle.object_journal.specs.Standing.{chosen, StandsOn, OthersMayBe, IsMended}
 use Rattle.object_store.specs.declared.item.Item.{Item}
 use Rattle.object_store.specs.Records.{AreRecords, HoldsKey, IsChanged, RecoversTo}
 
@@ -83,12 +83,13 @@ pub record LeavesRecords (pending : File → Pending) (s : StoreRecord) (e : Ent
 abbrev pub KeepsRecords : List ℕ → List ℕ → Type 0
 KeepsRecords old new = (items : List Item) (revision : ℕ) → RecoversTo old items revision → RecoversTo new items revision
 
--- both mean the same base and entries
+-- the new bytes are the old ones, mended as an opening does, and both mean the same base and entries
 pub record MeanOne (old new : List ℕ) : Type 0 where
   pub base : ℕ
   pub entries : List Entry
   pub first : IsJournal old base entries
   pub second : IsJournal new base entries
+  pub mended : IsMended old base new
 
 -- a stop leaves the records that the file gave
 pub record LeavesSame (held : Images) (pending : File → Pending) (images : Images) : Type 0 where

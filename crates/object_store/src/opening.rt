@@ -35,6 +35,7 @@ pub fn open_store<D: Disk>(alloc: Global, disk: &mut D) -> Result<Store, OpenFau
     ensures beside { D.beside disk.new ≡ D.beside disk.old }
     ensures later { D.faults disk.old ≤ D.faults disk.new }
     ensures disk { IsErrOf result OpenFault.Disk → Rose (D.faults disk.old) (D.faults disk.new) }
+    ensures fine { ¬ IsErrOf result OpenFault.Disk → D.faults disk.new ≡ D.faults disk.old }
 {
     let (journal, recovered) = match open_journal_into::<Recovered, D>(alloc, disk) {
         Ok(opened) => opened,

@@ -6,7 +6,7 @@ ghost use Rattle.object_journal.specs.declared.entry.Entry.{Entry as EntryS};
 ghost use Rattle.object_journal.specs.declared.appending.Journal.{Journal as JournalS};
 ghost use Rattle.object_journal.specs.Payload.{HasShortTexts, longest_payload, payload_of};
 ghost use Rattle.object_journal.specs.Journal.{HasLawfulTexts, last_revision, most_keys};
-ghost use Rattle.object_journal.specs.Standing.{OthersStay};
+ghost use Rattle.object_journal.specs.Standing.{chosen, OthersStay, appended};
 ghost use Rattle.object_store.specs.declared.item.Item.{Item as ItemS};
 ghost use Rattle.object_store.specs.Records.{AreInKeyOrder, IsChanged, HoldsKey};
 ghost use Rattle.object_store.specs.Stores.{HaveLawfulTexts, Recalls, HasEntries, IsFull, IsPutOf, IsRemovalOf, MayCommit, LeavesRecords};
@@ -194,10 +194,12 @@ impl Store {
         ensures stands { OnOk result ((entries : List EntryS) → HasEntries D.tells (D.held disk.old) (D.pending disk.old) self.old entries → MayCommit self.old entries ready → HasEntries D.tells (D.held disk.new) (D.pending disk.new) self.new (entries ++ ready ∷ [])) }
         ensures failed { OnErr result (self.new ≡ record self.old { journal = record self.old.journal { ended = true }; spare = 0 }) }
         ensures spare { self.new.spare ≡ 0 }
+        ensures written { D.tells → OnOk result (D.held disk.new chosen ≡ appended (D.held disk.old chosen) self.old.journal.end ready) }
         ensures time { D.tells → Moments D.clock D.may_leave disk.old disk.new (λ _. LeavesRecords (D.pending disk.old) self.old ready) }
         ensures others { D.tells → OthersStay (D.held disk.old) (D.held disk.new) (D.pending disk.old) (D.pending disk.new) }
         ensures beside { D.beside disk.new ≡ D.beside disk.old }
         ensures cause { HasCause (D.faults disk.old) (D.faults disk.new) result }
+        ensures fine { OnOk result (D.faults disk.new ≡ D.faults disk.old) }
     {
         self.spare = 0;
         self.journal.append(ready.framed(), disk)?;

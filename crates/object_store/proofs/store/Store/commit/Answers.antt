@@ -1,7 +1,7 @@
-use Rattle.std.proofs.Common.{◌++◌, ◌∷◌, [], List, sym, ap, subst, arith}
+use Rattle.std.proofs.Common.{◌++◌, ◌∷◌, ◌∙◌, [], List, sym, ap, subst, arith}
 use Rattle.object_journal.specs.declared.entry.Entry.{Entry}
 use Rattle.object_journal.specs.Journal.{HasLawfulTexts}
-use Rattle.object_journal.specs.Standing.{StandsOn}
+use Rattle.object_journal.specs.Standing.{chosen, appended, StandsOn}
 use Rattle.object_store.specs.declared.item.Item.{Item}
 use Rattle.object_store.specs.Records.{IsChanged}
 use Rattle.object_store.specs.Stores.{StoreRecord}
@@ -48,3 +48,8 @@ returns-clause-stands g c entries h may =
       stands = subst (λ (e : Entry). StandsOn d.tells (d.held c.append.new.disk) (d.pending c.append.new.disk) c.append.new.self (entries ++ e ∷ [])) c.framed.ensures stands;
       records = records_changed entries s.items c.args.ready c.change.new.items.items h.records changed;
     }
+
+pub returns-clause-written : goal.returns-clause-written
+returns-clause-written g c told =
+    let journal = ap (λ (x : StoreRecord). x.journal) c.self.view_is in
+    c.in_ok-append.ensures.written told ∙ (λ i. appended (g.D.Disk.held c.args.disk.now chosen) (journal i).end (c.framed.ensures i))
