@@ -1,5 +1,5 @@
 //! A source and a sink in memory, for tests and for worlds of the program's own.
-ghost use Rattle.std.specs.Prelude.{◌≡◌, ◌↔◌, ◌⊎◌, [], Some, IsErr, OnOk, OnErr, Contains};
+ghost use Rattle.std.specs.Prelude.{◌≡◌, ◌↔◌, ◌⊎◌, [], Some, IsErr, IfOk, OnOk, OnErr, Contains, length, min};
 ghost use Rattle.std.specs.Io.{ReadsAtMost};
 ghost use Rattle.std.specs.Io.KnownBytes.{ReadConsumes};
 ghost use Rattle.basis.specs.Counts.{HasCause};
@@ -59,6 +59,9 @@ impl Source for MemSource {
         ensures cause { HasCause self.old.faults self.new.faults result }
         ensures fine { OnOk result (self.new.faults ≡ self.old.faults) }
         ensures failed { OnErr result (self.new.faults ≡ counted self.old.faults) }
+
+        // It gives as many bytes as are left and have room.
+        ensures full { IfOk result (λ n. n ≡ min (length self.old.left) (length into.new)) }
 
         // The numbers of the failing calls are those of the list.
         ensures fails { IsErr result ↔ Contains self.old.fails (counted self.old.calls) }
@@ -136,6 +139,9 @@ impl Sink for MemSink {
         ensures cause { HasCause self.old.faults self.new.faults result }
         ensures fine { OnOk result (self.new.faults ≡ self.old.faults) }
         ensures failed { OnErr result (self.new.faults ≡ counted self.old.faults) }
+
+        // A refused write appends nothing.
+        ensures kept { OnErr result (self.new.written ≡ self.old.written) }
 
         // A listed call fails, and another only where it found no memory and counted that.
         ensures listed_fails { Contains self.old.fails (counted self.old.calls) → IsErr result }

@@ -1,4 +1,4 @@
-use Rattle.std.proofs.Common.{◌≤◌, ◌-◌, vec_len}
+use Rattle.std.proofs.Common.{◌≡◌, ◌≤◌, ◌-◌, vec_len}
 use Rattle.std.specs.Io.KnownBytes.{Consumes}
 use Rattle.emu_server.proofs.taking.take_history.Given as goal
 
@@ -7,6 +7,7 @@ invariant-loop-buffer g l = record {
   bytes : Consumes (g.S.Source.left l.fn.source) (g.S.Source.left l.source) l.taken.items;
   bound : vec_len l.taken ≤ 1048577;
   later : g.S.Source.faults l.fn.source ≤ g.S.Source.faults l.source;
+  fine : g.S.Source.faults l.source ≡ g.S.Source.faults l.fn.source;
 }
 
 abbrev pub decreases-loop-buffer : goal.decreases-loop-buffer
