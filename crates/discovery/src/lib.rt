@@ -7,10 +7,6 @@ mod groups;
 mod law;
 mod releases;
 mod resources;
-#[cfg(test)]
-mod row_tests;
-#[cfg(test)]
-mod tests;
 mod text;
 
 pub use gates::metrics;

@@ -10,8 +10,6 @@ mod objects;
 mod run;
 mod status;
 mod taking;
-#[cfg(test)]
-mod tests;
 mod words;
 
 pub use disk::{FailList, Failed};

@@ -8,8 +8,6 @@ mod keys;
 mod on_fields;
 mod on_spellings;
 mod paths;
-#[cfg(test)]
-mod tests;
 mod types;
 
 pub use broken::first_broken;

@@ -11,8 +11,6 @@ mod gate_rules;
 mod kinds;
 mod late;
 mod previous;
-#[cfg(test)]
-mod tests;
 
 pub use accept::check;
 pub use fault::CheckFault;

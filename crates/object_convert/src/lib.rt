@@ -6,8 +6,6 @@ mod fault;
 mod law;
 mod number;
 mod object;
-#[cfg(test)]
-mod tests;
 mod whole;
 
 pub use converting::convert;

@@ -1,73 +1,13 @@
 //! What the pages of a release hold. Each case asks for a page, or looks something up, with a few words: the number of a
 //! release, what is asked, and of what.
-use crate::{group, group_list, metrics, resource_list, version_info};
-use gate_flags::gate_values;
-use history_reader::read_history;
-use history_rules::check;
-use lifecycle::ApiName;
-use minor_version::{Minor, from_number};
-use release_view::{View, texts_make_view, view};
-use runtime_config::enabled_at;
-use schemas::{Accepted, gates_rise_in_date};
+use crate::samples::{WIDGETS, release, view_of, widgets};
+use discovery::{group, group_list, metrics, resource_list, version_info};
+use minor_version::Minor;
+use release_view::View;
 use serde_json::Value;
 use std::alloc::Global;
 use std::process::Abort;
 use std::test::Fail;
-
-const WIDGETS: &str = r#"
-first = "1.28"
-last = "1.33"
-gate = [
- {name="WidgetColor", since="1.29", stage="ALPHA", default=false},
- {name="WidgetColor", since="1.31", stage="BETA", default=true},
- {name="WidgetColor", since="1.33", stage="", default=true, locked=true},
- {name="SlowMode", since="1.28", stage="BETA", default=true},
- {name="SlowMode", since="1.29", stage="", default=true, locked=true},
- {name="SlowMode", since="1.32", removed=true},
-]
-api = [
- {group="demo.example", version="v1beta1", resource="widgets", since="1.28", event="introduced", kind="Widget", singular="widget", namespaced=true, enabled=true},
- {group="demo.example", version="v1beta1", resource="widgets", since="1.30", event="deprecated", removal="1.33", replacement="v1"},
- {group="demo.example", version="v1beta1", resource="widgets", since="1.33", event="removed"},
- {group="demo.example", version="v1", resource="widgets", since="1.30", event="introduced", kind="Widget", singular="widget", namespaced=true, enabled=true},
- {group="demo.example", version="v1alpha1", resource="gadgets", since="1.32", event="introduced", kind="Gadget", singular="gadget", namespaced=true, enabled=false},
-]
-"#;
-
-fn accepted(alloc: Global) -> Result<Accepted, Fail> {
-    let Ok(history) = read_history(alloc, WIDGETS.as_bytes()) else {
-        return Err(Fail::from("no history"));
-    };
-    match check(alloc, history) {
-        Ok(accepted) => Ok(accepted),
-        Err(_) => Err(Fail::from("not accepted")),
-    }
-}
-
-fn release(word: &str) -> Result<Minor, Fail> {
-    match word.parse::<u16>() {
-        Ok(k) => Ok(from_number(k).ok_or("no release")?),
-        Err(_) => Err(Fail::from("no number")),
-    }
-}
-
-// The view of the release with empty flag texts.
-fn view_of(alloc: Global, e: Minor) -> Result<View, Fail> {
-    let accepted = accepted(alloc)?;
-    if e < accepted.first() || accepted.last() < e {
-        return Err(Fail::from("out of range"));
-    }
-    let history = accepted.history();
-    gates_rise_in_date(history);
-    let Ok(gates) = gate_values(alloc, history.gates.items(), e, b"") else {
-        return Err(Fail::from("gates"));
-    };
-    let Ok(on) = enabled_at(alloc, history.apis.items(), e, b"") else {
-        return Err(Fail::from("served"));
-    };
-    texts_make_view(&accepted, e, b"", &gates, b"", &on);
-    Ok(view(alloc, &accepted, e, gates, on)?)
-}
 
 fn text_of(alloc: Global, page: Option<Value>) -> Result<String, Fail> {
     match page {
@@ -89,14 +29,6 @@ fn metrics_text(alloc: Global, view: &View) -> Result<String, Fail> {
     match str::from_utf8(page.bytes()) {
         Ok(text) => Ok(String::from_str(alloc, text)?),
         Err(_) => Err(Fail::from("no text")),
-    }
-}
-
-fn widgets<'a>(version: &'a str) -> ApiName<'a> {
-    ApiName {
-        group: b"demo.example",
-        version: version.as_bytes(),
-        resource: b"widgets",
     }
 }
 
@@ -167,7 +99,7 @@ fn answer(alloc: Global, words: &str) -> Result<String, Fail> {
     let what = words.next().unwrap_or("");
     let first = words.next().unwrap_or("");
     let second = words.next().unwrap_or("");
-    told(alloc, &view_of(alloc, e)?, what, first, second)
+    told(alloc, &view_of(alloc, WIDGETS, e)?, what, first, second)
 }
 
 fn answers(rt: &impl Abort, alloc: Global, cases: &[(&str, &str)]) -> Result<(), Fail> {

@@ -1,41 +1,12 @@
-//! What no clause tells: that calls end otherwise than in want of memory, with the texts of the product's example.
-use super::*;
+//! What no clause tells: that commands end otherwise than in want of memory, with the texts of the product's example.
+use crate::samples::WIDGETS;
+use emu_server::{
+    FailList, MemSink, MemSource, Sink, Source, Status, StdSink, StdSource, run_plain,
+};
 use minor_version::Blob;
 use std::alloc::Global;
 use std::process::Abort;
 use std::test::Fail;
-
-const EXAMPLE: &str = r#"first = "1.28"
-last = "1.33"
-gate = [
- {name="WidgetColor", since="1.29", stage="ALPHA", default=false},
- {name="WidgetColor", since="1.31", stage="BETA", default=true},
- {name="WidgetColor", since="1.33", stage="", default=true, locked=true},
- {name="SlowMode", since="1.28", stage="BETA", default=true},
- {name="SlowMode", since="1.29", stage="", default=true, locked=true},
- {name="SlowMode", since="1.32", removed=true},
-]
-api = [
- {group="demo.example", version="v1beta1", resource="widgets", since="1.28", event="introduced", kind="Widget", singular="widget", namespaced=true, enabled=true},
- {group="demo.example", version="v1beta1", resource="widgets", since="1.30", event="deprecated", removal="1.33", replacement="v1"},
- {group="demo.example", version="v1beta1", resource="widgets", since="1.33", event="removed"},
- {group="demo.example", version="v1", resource="widgets", since="1.30", event="introduced", kind="Widget", singular="widget", namespaced=true, enabled=true},
- {group="demo.example", version="v1alpha1", resource="gadgets", since="1.32", event="introduced", kind="Gadget", singular="gadget", namespaced=true, enabled=false},
-]
-field = [
- {group="demo.example", resource="widgets", id="size", since="1.28", type="Int", required=true},
- {group="demo.example", resource="widgets", id="paused", since="1.28", type="Bool"},
- {group="demo.example", resource="widgets", id="color", since="1.29", type="Text", gate="WidgetColor"},
-]
-spell = [
- {group="demo.example", resource="widgets", version="v1beta1", field="size", since="1.28", path="spec.size"},
- {group="demo.example", resource="widgets", version="v1", field="size", since="1.30", path="spec.dimensions.size"},
- {group="demo.example", resource="widgets", version="v1beta1", field="paused", since="1.28", path="spec.active", form="Not"},
- {group="demo.example", resource="widgets", version="v1", field="paused", since="1.30", path="spec.paused"},
- {group="demo.example", resource="widgets", version="v1beta1", field="color", since="1.29", path="spec.color"},
- {group="demo.example", resource="widgets", version="v1", field="color", since="1.30", path="spec.color", default="grey"},
-]
-"#;
 
 // Words, the number of the status, and the lines that are written.
 const ANSWERS: &str = r#" | 2 | usage: kube_emu <command> [options]
@@ -141,7 +112,7 @@ fn words_of<'a>(alloc: Global, text: &'a str) -> Result<Vec<&'a str>, Fail> {
 
 fn answer(alloc: Global, words: &str) -> Result<String, Fail> {
     let words = words_of(alloc, words)?;
-    ended(alloc, words.as_slice(), EXAMPLE.as_bytes(), &[], &[])
+    ended(alloc, words.as_slice(), WIDGETS.as_bytes(), &[], &[])
 }
 
 fn answers(rt: &impl Abort, alloc: Global, cases: &str) -> Result<(), Fail> {
@@ -187,7 +158,7 @@ fn histories_that_are_refused(rt: HostRuntime) -> Result<(), Fail> {
 }
 
 fn failing(alloc: Global, reads: &[u64], writes: &[u64]) -> Result<String, Fail> {
-    ended(alloc, &["discover"], EXAMPLE.as_bytes(), reads, writes)
+    ended(alloc, &["discover"], WIDGETS.as_bytes(), reads, writes)
 }
 
 #[test]

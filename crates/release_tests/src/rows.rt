@@ -1,44 +1,12 @@
 //! The rows of the versions of a resource, at several releases and with a gate set.
+use crate::samples::{WIDGETS, accepted, widgets};
 use fields::{FieldRow, FieldValue};
 use gate_flags::gate_values;
-use history_reader::read_history;
-use history_rules::check;
-use lifecycle::ApiName;
 use minor_version::from_number;
 use row_index::{RowIndex, version_has_one_table};
 use schemas::{Accepted, gates_rise_in_date};
 use std::alloc::Global;
 use std::test::Fail;
-
-// The widgets of examples/widgets.toml.
-const WIDGETS: &str = r#"
-first = "1.28"
-last = "1.33"
-gate = [
- {name="WidgetColor", since="1.29", stage="ALPHA", default=false},
- {name="WidgetColor", since="1.31", stage="BETA", default=true},
- {name="WidgetColor", since="1.33", stage="", default=true, locked=true},
-]
-api = [
- {group="demo.example", version="v1beta1", resource="widgets", since="1.28", event="introduced", kind="Widget", singular="widget", namespaced=true, enabled=true},
- {group="demo.example", version="v1beta1", resource="widgets", since="1.30", event="deprecated", removal="1.33", replacement="v1"},
- {group="demo.example", version="v1beta1", resource="widgets", since="1.33", event="removed"},
- {group="demo.example", version="v1", resource="widgets", since="1.30", event="introduced", kind="Widget", singular="widget", namespaced=true, enabled=true},
-]
-field = [
- {group="demo.example", resource="widgets", id="size", since="1.28", type="Int", required=true},
- {group="demo.example", resource="widgets", id="paused", since="1.28", type="Bool"},
- {group="demo.example", resource="widgets", id="color", since="1.29", type="Text", gate="WidgetColor"},
-]
-spell = [
- {group="demo.example", resource="widgets", version="v1beta1", field="size", since="1.28", path="spec.size"},
- {group="demo.example", resource="widgets", version="v1", field="size", since="1.30", path="spec.dimensions.size"},
- {group="demo.example", resource="widgets", version="v1beta1", field="paused", since="1.28", path="spec.active", form="Not"},
- {group="demo.example", resource="widgets", version="v1", field="paused", since="1.30", path="spec.paused"},
- {group="demo.example", resource="widgets", version="v1beta1", field="color", since="1.29", path="spec.color"},
- {group="demo.example", resource="widgets", version="v1", field="color", since="1.30", path="spec.color", default="grey"},
-]
-"#;
 
 const BETA: &str =
     "color Text false false spec.color Same -;paused Bool false true spec.active Not -;size Int true true spec.size Same -;";
@@ -54,16 +22,6 @@ const GA: &str =
 
 const GA_ON: &str =
     "color Text false true spec.color Same grey;paused Bool false true spec.paused Same -;size Int true true spec.dimensions.size Same -;";
-
-fn accepted(alloc: Global) -> Result<Accepted, Fail> {
-    let Ok(history) = read_history(alloc, WIDGETS.as_bytes()) else {
-        return Err(Fail::from("no history"));
-    };
-    match check(alloc, history) {
-        Ok(accepted) => Ok(accepted),
-        Err(_) => Err(Fail::from("not accepted")),
-    }
-}
 
 fn path_text(alloc: Global, row: &FieldRow) -> Result<String, Fail> {
     let mut text = String::new(alloc);
@@ -106,11 +64,7 @@ fn rows_text(
         return Err(Fail::from("gates"));
     };
     let index = RowIndex::at(alloc, accepted, e, &values)?;
-    let name = ApiName {
-        group: b"demo.example",
-        version: version.as_bytes(),
-        resource: b"widgets",
-    };
+    let name = widgets(version);
     version_has_one_table(
         &values,
         history.fields.items(),
@@ -127,7 +81,7 @@ fn rows_text(
 #[test]
 fn rows_of_widgets(rt: HostRuntime) -> Result<(), Fail> {
     let alloc = rt.alloc();
-    let accepted = accepted(alloc)?;
+    let accepted = accepted(alloc, WIDGETS)?;
     for (k, gates, version, want) in [
         (28, "", "v1beta1", FIRST_BETA),
         (29, "", "v1beta1", BETA),
