@@ -5,18 +5,19 @@ use Rattle.std.specs.List.{dedup, dedup_from, AllByRecursion}
 use Rattle.std.specs.Str.{bytes_eq}
 use Rattle.std.proofs.lemmas.Bool.{cases_Bool}
 use Rattle.std.proofs.lemmas.Slice.Eq.{bytes_eq-Decides}
-use Rattle.discovery.specs.Lasts.{last_of, is_last}
+use Rattle.basis.proofs.NameLemmas.{same_bytes}
+use Rattle.discovery.specs.Lasts.{last_text, is_last}
 
-pub last_of-push : (xs : List (List ℕ)) (x : List ℕ) → last_of (xs ++ x ∷ []) ≡ Some x
-last_of-push [] x = refl
-last_of-push (y ∷ ys) x = ap (λ o. Some (unwrap_or o y)) (last_of-push ys x)
+pub last_text-push : (xs : List (List ℕ)) (x : List ℕ) → last_text (xs ++ x ∷ []) ≡ Some x
+last_text-push [] x = refl
+last_text-push (y ∷ ys) x = ap (λ o. Some (unwrap_or o y)) (last_text-push ys x)
 
 -- the list with an element that isn't its last one
 abbrev pub grown : List (List ℕ) → List ℕ → List (List ℕ)
-grown xs x = cond (is_last (last_of xs) x) xs (xs ++ x ∷ [])
+grown xs x = cond (is_last (last_text xs) x) xs (xs ++ x ∷ [])
 
 -- a kept element at the front of a list that isn't empty
-grown-cons : (k : List ℕ) (xs : List (List ℕ)) (l x : List ℕ) → last_of xs ≡ Some l → grown (k ∷ xs) x ≡ k ∷ grown xs x
+grown-cons : (k : List ℕ) (xs : List (List ℕ)) (l x : List ℕ) → last_text xs ≡ Some l → grown (k ∷ xs) x ≡ k ∷ grown xs x
 grown-cons k xs l x e =
     elim (cases_Bool (bytes_eq x l)) [
       | inl same ↦ rw (e, same) refl
@@ -24,7 +25,7 @@ grown-cons k xs l x e =
     ]
 
 -- what `dedup_from` ends in
-ends : (k : List ℕ) (xs : List (List ℕ)) → (l : List ℕ) × (last_of (dedup_from bytes_eq k xs) ≡ Some l)
+ends : (k : List ℕ) (xs : List (List ℕ)) → (l : List ℕ) × (last_text (dedup_from bytes_eq k xs) ≡ Some l)
 ends k [] = (k, refl)
 ends k (x ∷ xs) = elim (cases_Bool (bytes_eq x k)) [
   | inl same ↦ (let r = ends k xs in (r.0, rw same r.1))
@@ -41,9 +42,6 @@ dedup_from-push k (y ∷ ys) x = elim (cases_Bool (bytes_eq y k)) [
 pub dedup-push : (xs : List (List ℕ)) (x : List ℕ) → dedup bytes_eq (xs ++ x ∷ []) ≡ grown (dedup bytes_eq xs) x
 dedup-push [] x = refl
 dedup-push (y ∷ ys) x = dedup_from-push y ys x
-
-same_bytes : (a b : List ℕ) → a ≡ b → bytes_eq a b ≡ true
-same_bytes a b e = (bytes_eq-Decides a b).1 e
 
 -- a run of one text is kept once
 pub dedup_from-run : (k : List ℕ) (run xs : List (List ℕ)) → AllByRecursion (λ x. x ≡ k) run → dedup_from bytes_eq k (run ++ xs) ≡ dedup_from bytes_eq k xs

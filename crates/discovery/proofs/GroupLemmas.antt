@@ -9,17 +9,15 @@ use Rattle.std.proofs.lemmas.Bool.{false_from_ne_true}
 use Rattle.std.proofs.lemmas.Cmp.{nat_list_cmp_total}
 use Rattle.std.proofs.lemmas.List.Elements.{All-from_recursion, recursion_from_All, All-filter, filter-append}
 use Rattle.std.proofs.lemmas.List.Filters.{All-dedup}
-use Rattle.std.proofs.lemmas.List.{map-append}
+use Rattle.std.proofs.lemmas.List.{append-nil, map-append}
 use Rattle.std.proofs.lemmas.Map.Lookups.{exact_bytes}
 use Rattle.std.proofs.lemmas.Slice.Eq.{bytes_eq-Decides}
 use Rattle.serde_json.specs.Data.{Data}
+use Rattle.basis.proofs.NameLemmas.{same_bytes}
 use Rattle.release_view.specs.declared.served.ServedVersion.{ServedVersion}
 use Rattle.discovery.specs.Groups.{is_in, versions_in, is_core, names_in, group_tree, group_trees}
 use Rattle.discovery.specs.Order.{GroupsRise, AreIn, IsOfAnother}
 use Rattle.discovery.proofs.DedupLemmas.{dedup_from-run}
-
-same_bytes : (a b : List ℕ) → a ≡ b → bytes_eq a b ≡ true
-same_bytes a b e = (bytes_eq-Decides a b).1 e
 
 other_bytes : (a b : List ℕ) → a ≢ b → bytes_eq a b ≡ false
 other_bytes a b h = false_from_ne_true (bytes_eq a b) (λ e. h ((bytes_eq-Decides a b).0 e))
@@ -42,10 +40,6 @@ own_out g k (s ∷ own) h other = ((λ e. other (sym e ∙ h.0)), own_out g k ow
 
 nil_append : {X : Type 0} (xs ys : List X) → xs ≡ [] → xs ++ ys ≡ ys
 nil_append xs ys e = ap (λ zs. zs ++ ys) e
-
-append_nil : {X : Type 0} (xs : List X) → xs ++ [] ≡ xs
-append_nil [] = refl
-append_nil (x ∷ xs) = ap (λ ys. x ∷ ys) (append_nil xs)
 
 -- ---- in order
 
@@ -85,7 +79,7 @@ module _ (s : ServedVersion) (own others : List ServedVersion) (all_in : AreIn s
   own_versions : versions_in whole s.group ≡ versions_in (s ∷ own) s.group
   own_versions =
       let one : filter (is_in s.group) (own ++ others) ≡ filter (is_in s.group) own =
-      filter-append (is_in s.group) own others ∙ ap (λ ys. filter (is_in s.group) own ++ ys) (none_own s.group others out) ∙ append_nil (filter (is_in s.group) own) in
+      filter-append (is_in s.group) own others ∙ ap (λ ys. filter (is_in s.group) own ++ ys) (none_own s.group others out) ∙ append-nil (filter (is_in s.group) own) in
       ap (λ (xs : List ServedVersion). dedup bytes_eq (map (λ (v : ServedVersion). v.version) (cond (bytes_eq s.group s.group) (s ∷ xs) xs))) one
 
   other_versions : (k : List ℕ) → k ≢ s.group → versions_in whole k ≡ versions_in others k

@@ -5,7 +5,7 @@ use Rattle.std.specs.List.{dedup}
 use Rattle.std.specs.Option.{is_some}
 use Rattle.std.specs.Str.{bytes_eq}
 use Rattle.std.proofs.lemmas.Bool.{and_parts, false≢true}
-use Rattle.std.proofs.lemmas.List.{map-append}
+use Rattle.std.proofs.lemmas.List.{append-nil, map-append}
 use Rattle.std.proofs.lemmas.List.Elements.{filter-append}
 use Rattle.std.proofs.lemmas.Slice.Eq.{bytes_eq-Decides}
 use Rattle.serde_json.specs.Data.{Data}
@@ -13,10 +13,10 @@ use Rattle.lifecycle.specs.Names.{group_version}
 use Rattle.release_view.specs.declared.served.ServedVersion.{ServedVersion}
 use Rattle.release_view.proofs.ListLemmas.{found, some-find}
 use Rattle.discovery.specs.Groups.{is_in, versions_in, single_tree, group_among, serves_group}
-use Rattle.discovery.specs.Lasts.{last_of, is_last}
+use Rattle.discovery.specs.Lasts.{last_text, is_last}
 use Rattle.discovery.specs.Order.{AreIn, IsOfAnother}
 use Rattle.discovery.specs.Resources.{is_of, resources_in, resource_tree, resources_tree, resources_among, serves_version}
-use Rattle.discovery.proofs.DedupLemmas.{dedup-push, grown, last_of-push}
+use Rattle.discovery.proofs.DedupLemmas.{dedup-push, grown, last_text-push}
 
 -- ---- texts
 
@@ -67,10 +67,6 @@ some_served served g v first trees tree is listed made =
 
 -- ---- the versions of a group
 
-append_nil : {X : Type 0} (xs : List X) → xs ++ [] ≡ xs
-append_nil [] = refl
-append_nil (x ∷ xs) = ap (λ ys. x ∷ ys) (append_nil xs)
-
 module _ (xs : List ServedVersion) (x : ServedVersion) (g : List ℕ) where
   abbrev before : List (List ℕ)
   before = versions_in xs g
@@ -78,7 +74,7 @@ module _ (xs : List ServedVersion) (x : ServedVersion) (g : List ℕ) where
   other_group : bytes_eq x.group g ≡ false → versions_in (xs ++ x ∷ []) g ≡ before
   other_group apart =
       let none : filter (is_in g) (x ∷ []) ≡ [] = ap (λ (b : Bool). cond b (x ∷ []) []) apart in
-      ap (λ ys. dedup bytes_eq (map (λ (s : ServedVersion). s.version) ys)) (filter-append (is_in g) xs (x ∷ []) ∙ ap (λ ys. filter (is_in g) xs ++ ys) none ∙ append_nil (filter (is_in g) xs))
+      ap (λ ys. dedup bytes_eq (map (λ (s : ServedVersion). s.version) ys)) (filter-append (is_in g) xs (x ∷ []) ∙ ap (λ ys. filter (is_in g) xs ++ ys) none ∙ append-nil (filter (is_in g) xs))
 
   same_group : bytes_eq x.group g ≡ true → versions_in (xs ++ x ∷ []) g ≡ grown before x.version
   same_group same =
@@ -88,20 +84,20 @@ module _ (xs : List ServedVersion) (x : ServedVersion) (g : List ℕ) where
       ∙ dedup-push (map (λ (s : ServedVersion). s.version) (filter (is_in g) xs)) x.version
 
   abbrev HasVersions : List (List ℕ) → Option (List ℕ) → List ServedVersion → Type 0
-  HasVersions versions last ys = (versions ≡ versions_in ys g) × (last ≡ last_of (versions_in ys g))
+  HasVersions versions last ys = (versions ≡ versions_in ys g) × (last ≡ last_text (versions_in ys g))
 
   pub versions_other : (versions : List (List ℕ)) (last : Option (List ℕ)) → bytes_eq x.group g ≡ false → HasVersions versions last xs → HasVersions versions last (xs ++ x ∷ [])
-  versions_other versions last apart h = (h.0 ∙ sym (other_group apart), h.1 ∙ ap last_of (sym (other_group apart)))
+  versions_other versions last apart h = (h.0 ∙ sym (other_group apart), h.1 ∙ ap last_text (sym (other_group apart)))
 
   pub versions_same : (versions : List (List ℕ)) (last : Option (List ℕ)) → bytes_eq x.group g ≡ true → is_last last x.version ≡ true → HasVersions versions last xs → HasVersions versions last (xs ++ x ∷ [])
   versions_same versions last same again h =
       let kept : versions_in (xs ++ x ∷ []) g ≡ before = same_group same ∙ ap (λ (b : Bool). cond b before (before ++ x.version ∷ [])) (ap (λ o. is_last o x.version) (sym h.1) ∙ again) in
-      (h.0 ∙ sym kept, h.1 ∙ ap last_of (sym kept))
+      (h.0 ∙ sym kept, h.1 ∙ ap last_text (sym kept))
 
   pub versions_more : (versions : List (List ℕ)) (last : Option (List ℕ)) → bytes_eq x.group g ≡ true → is_last last x.version ≡ false → HasVersions versions last xs → HasVersions (versions ++ x.version ∷ []) (Some x.version) (xs ++ x ∷ [])
   versions_more versions last same new h =
       let more : versions_in (xs ++ x ∷ []) g ≡ before ++ x.version ∷ [] = same_group same ∙ ap (λ (b : Bool). cond b before (before ++ x.version ∷ [])) (ap (λ o. is_last o x.version) (sym h.1) ∙ new) in
-      (ap (λ vs. vs ++ x.version ∷ []) h.0 ∙ sym more, sym (last_of-push before x.version) ∙ ap last_of (sym more))
+      (ap (λ vs. vs ++ x.version ∷ []) h.0 ∙ sym more, sym (last_text-push before x.version) ∙ ap last_text (sym more))
 
 -- ---- the split of a group from the others
 

@@ -20,7 +20,7 @@ use Rattle.release_view.specs.Served.{served_of}
 use Rattle.release_view.specs.declared.known.KnownVersion.{KnownVersion}
 use Rattle.release_view.specs.declared.served.ServedVersion.{ServedVersion}
 use Rattle.discovery.specs.Groups.{is_in, versions_in}
-use Rattle.discovery.specs.Laws.{AreStable}
+use Rattle.discovery.specs.Laws.{AreByStability}
 use Rattle.discovery.specs.Resources.{resources_in}
 
 pub record IsSpelled (v : KnownVersion) : Type 0 where
@@ -82,7 +82,7 @@ words_from k t (v ∷ vs) word text all low rise = elim (cases_Bool (bytes_eq v.
       rw apart (record { words = k ∷ rest.words; strict = strict_cons k rest.words above rest.strict; low = (not_above_itself k, all_low k rest.words above); spell = ap (λ x. x ∷ map word_text rest.words) (sym text) ∙ ap (λ xs. t ∷ xs) rest.spell }))
 ]
 
-words_of : (vs : List KnownVersion) → AllByRecursion IsSpelled vs → WordsRise vs → AreStable (dedup bytes_eq (texts vs))
+words_of : (vs : List KnownVersion) → AllByRecursion IsSpelled vs → WordsRise vs → AreByStability (dedup bytes_eq (texts vs))
 words_of [] all rise = ([], strict_nil, refl)
 words_of (v ∷ vs) all rise = let r = words_from v.word v.table.version vs all.0.lawful all.0.text all.1 rise.0 rise.1 in (r.words, r.strict, r.spell)
 
@@ -130,7 +130,7 @@ module _ (g : List ℕ) where
     | inr off ↦ rw off (own_rise vs (sorted_tail by_place v vs h))
   ]
 
-  pub stable : (vs : List KnownVersion) → AreInPlace vs → AllByRecursion IsSpelled vs → AreStable (versions_in (served_of vs) g)
+  pub stable : (vs : List KnownVersion) → AreInPlace vs → AllByRecursion IsSpelled vs → AreByStability (versions_in (served_of vs) g)
   stable vs place spelled =
       let r = words_of (filter own vs) (own_spelled vs spelled) (own_rise vs place) in
       (r.0, r.1, r.2 ∙ ap (dedup bytes_eq) (sym (own_texts vs)))

@@ -19,10 +19,10 @@ pub record AreListed (served : List ServedVersion) : Type 0 where
   pub versions : (group version : List ℕ) → Contains (versions_in served group) version ↔ Any (λ s. (s.group ≡ group) × (s.version ≡ version)) served
 
 -- the texts are those of version words, the most stable first
-abbrev pub AreStable : List (List ℕ) → Type 0
-AreStable texts = (words : List VersionWord) × IsStrictlySortedBy by_stability words × (map word_text words ≡ texts)
+abbrev pub AreByStability : List (List ℕ) → Type 0
+AreByStability texts = (words : List VersionWord) × IsStrictlySortedBy by_stability words × (map word_text words ≡ texts)
 
 -- in the view of a release the versions of a group stand in order of stability, and the resources of a version in order of bytes
 pub record ListsInOrder (known : List KnownVersion) : Type 0 where
-  pub versions : (group : List ℕ) → AreStable (versions_in (served_of known) group)
+  pub versions : (group : List ℕ) → AreByStability (versions_in (served_of known) group)
   pub resources : (group version : List ℕ) → IsStrictlySortedBy (slice_cmp nat_cmp) (map (λ s. s.resource) (resources_in (served_of known) group version))

@@ -1,4 +1,4 @@
--- The page of the gates' values (in the format of Prometheus).
+-- The page of the gates' values (in Prometheus' text exposition format).
 use Rattle.std.specs.Prelude.{ℕ, List, ◌++◌, Bool, true, false, codes}
 use Rattle.std.specs.List.{flat_map}
 use Rattle.gate_spec.specs.Stages.{stage_word}

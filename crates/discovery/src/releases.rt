@@ -1,6 +1,6 @@
 ghost use Rattle.std.specs.Prelude.{◌≡◌, IfOk};
 ghost use Rattle.serde_json.specs.View.{view as tree_of};
-ghost use Rattle.discovery.specs.Releases.{releases_tree, version_page};
+ghost use Rattle.discovery.specs.Releases.{releases_tree, releases_page};
 
 use basis::Memory;
 use minor_version::Minor;
@@ -20,7 +20,7 @@ fn releases_value(
 
 /// The document of a server's releases: that of its binary, the emulated one, and the minimum compatibility.
 pub fn version_info(alloc: Global, n: Minor, e: Minor, m: Minor) -> Result<Value, Memory>
-    ensures { IfOk result (λ v. tree_of v ≡ version_page n e m) }
+    ensures { IfOk result (λ v. tree_of v ≡ releases_page n e m) }
 {
     let release = n.text(alloc)?;
     let emulated = e.text(alloc)?;

@@ -4,7 +4,8 @@ use Rattle.std.specs.List.{list_any, list_all}
 use Rattle.std.proofs.lemmas.Bool.{eqb-true}
 use Rattle.std.proofs.lemmas.List.{take-append-drop, take_more, map-append}
 use Rattle.std.proofs.lemmas.List.Elements.{filter_map-append}
-use Rattle.emu_server.specs.Words.{texts_of, text_of, behind, values_of, value_list, gives_one}
+use Rattle.std.specs.Option.{option_to_list}
+use Rattle.emu_server.specs.Words.{texts_of, text_of, behind, values_of, gives_one}
 
 -- ---- one word
 
@@ -42,12 +43,12 @@ pub known_is : (names words : List (Bor (List ℕ))) → list_all (λ word. list
 known_is names [] = refl
 known_is names (w ∷ ws) = ap₂ (λ a b. a && b) (any_is names w.now) (known_is names ws)
 
-one_value : (name word : List ℕ) (o : Option (List ℕ)) → behind name word ≡ o → values_of name (word ∷ []) ≡ value_list o
+one_value : (name word : List ℕ) (o : Option (List ℕ)) → behind name word ≡ o → values_of name (word ∷ []) ≡ option_to_list o
 one_value name word None is = rw is refl
 one_value name word (Some v) is = rw is refl
 
 -- the values of the words so far and of the next one
-values_more : (name : List ℕ) (words : List (Bor (List ℕ))) (i : ℕ) (d : Bor (List ℕ)) → i < length words → values_of name (texts_of (take (i + 1) words)) ≡ values_of name (texts_of (take i words)) ++ value_list (behind name (get_or words i d).now)
+values_more : (name : List ℕ) (words : List (Bor (List ℕ))) (i : ℕ) (d : Bor (List ℕ)) → i < length words → values_of name (texts_of (take (i + 1) words)) ≡ values_of name (texts_of (take i words)) ++ option_to_list (behind name (get_or words i d).now)
 values_more name words i d within =
     let texts : texts_of (take (i + 1) words) ≡ texts_of (take i words) ++ (get_or words i d).now ∷ [] =
     ap texts_of (take_more words i d within) ∙ map-append (λ (x : Bor (List ℕ)). x.now) (take i words) (get_or words i d ∷ []) in
@@ -56,28 +57,28 @@ values_more name words i d within =
 
 -- ---- one word after the other
 
-module _ (name : List ℕ) (words : List (Bor (List ℕ))) (i : ℕ) (d : Bor (List ℕ)) (found here : Option (Bor (List ℕ))) (within : i < length words) (before : values_of name (texts_of (take i words)) ≡ value_list (text_of found))
+module _ (name : List ℕ) (words : List (Bor (List ℕ))) (i : ℕ) (d : Bor (List ℕ)) (found here : Option (Bor (List ℕ))) (within : i < length words) (before : values_of name (texts_of (take i words)) ≡ option_to_list (text_of found))
     (is : text_of here ≡ behind name (get_or words i d).now) where
-  more : (o : Option (Bor (List ℕ))) → here ≡ o → values_of name (texts_of (take (i + 1) words)) ≡ value_list (text_of found) ++ value_list (text_of o)
-  more o same = values_more name words i d within ∙ ap₂ (λ vs ws. vs ++ value_list ws) before (sym is ∙ ap text_of same)
+  more : (o : Option (Bor (List ℕ))) → here ≡ o → values_of name (texts_of (take (i + 1) words)) ≡ option_to_list (text_of found) ++ option_to_list (text_of o)
+  more o same = values_more name words i d within ∙ ap₂ (λ vs ws. vs ++ option_to_list ws) before (sym is ∙ ap text_of same)
 
-  pub after_none : here ≡ None → values_of name (texts_of (take (i + 1) words)) ≡ value_list (text_of found)
-  after_none none = more None none ∙ append-nil (value_list (text_of found))
+  pub after_none : here ≡ None → values_of name (texts_of (take (i + 1) words)) ≡ option_to_list (text_of found)
+  after_none none = more None none ∙ append-nil (option_to_list (text_of found))
 
-  pub after_first : (v : Bor (List ℕ)) → here ≡ Some v → is_some found ≡ false → values_of name (texts_of (take (i + 1) words)) ≡ value_list (text_of (Some v))
+  pub after_first : (v : Bor (List ℕ)) → here ≡ Some v → is_some found ≡ false → values_of name (texts_of (take (i + 1) words)) ≡ option_to_list (text_of (Some v))
   after_first v some first = more (Some v) some ∙ by found first
     where
-      by : (o : Option (Bor (List ℕ))) → is_some o ≡ false → value_list (text_of o) ++ v.now ∷ [] ≡ v.now ∷ []
+      by : (o : Option (Bor (List ℕ))) → is_some o ≡ false → option_to_list (text_of o) ++ v.now ∷ [] ≡ v.now ∷ []
       by None e = refl
       by (Some u) e = absurd cc
 
-  pub after_second : (v : Bor (List ℕ)) → here ≡ Some v → is_some found ≡ true → (x : Option (List ℕ)) → values_of name (texts_of words) ≢ value_list x
+  pub after_second : (v : Bor (List ℕ)) → here ≡ Some v → is_some found ≡ true → (x : Option (List ℕ)) → values_of name (texts_of words) ≢ option_to_list x
   after_second v some second x h =
       by found second x
       (ap (λ vs. vs ++ values_of name (texts_of (drop (i + 1) words))) (sym (more (Some v) some)) ∙ sym (filter_map-append (behind name) (texts_of (take (i + 1) words)) (texts_of (drop (i + 1) words)))
       ∙ ap (values_of name) (sym (map-append (λ (w : Bor (List ℕ)). w.now) (take (i + 1) words) (drop (i + 1) words)) ∙ ap texts_of (take-append-drop (i + 1) words)) ∙ h)
     where
-      by : (o : Option (Bor (List ℕ))) → is_some o ≡ true → (y : Option (List ℕ)) → ((value_list (text_of o) ++ v.now ∷ []) ++ values_of name (texts_of (drop (i + 1) words))) ≢ value_list y
+      by : (o : Option (Bor (List ℕ))) → is_some o ≡ true → (y : Option (List ℕ)) → ((option_to_list (text_of o) ++ v.now ∷ []) ++ values_of name (texts_of (drop (i + 1) words))) ≢ option_to_list y
       by None e y k = cc
       by (Some u) e None k = cc
       by (Some u) e (Some y) k = cc

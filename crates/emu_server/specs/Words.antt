@@ -1,6 +1,7 @@
 -- The words of a command line.
 use Rattle.std.specs.Prelude.{ℕ, ◌≡◌, ◌==◌, List, [], ◌∷◌, Bool, true, map, codes, Some, None, option_map, is_some, if◌then◌else◌}
-use Rattle.std.specs.List.{filter_map, list_any, list_all}
+use Rattle.std.specs.List.{AllByRecursion, filter_map, list_any, list_all}
+use Rattle.std.specs.Option.{option_to_list}
 use Rattle.std.specs.Borrow.{Bor}
 use Rattle.std.specs.declared.option.Option.{Option}
 use Rattle.emu_server.specs.declared.words.Command.{Command}
@@ -47,19 +48,13 @@ pub record Setting : Type 0 where
 abbrev pub setting : List ℕ → Option (List ℕ) → Setting
 setting name value = record { name = name; value = value }
 
--- the value, where there is one
-abbrev pub value_list : Option (List ℕ) → List (List ℕ)
-value_list None = []
-value_list (Some value) = value ∷ []
-
 -- the word gives one of the options with these names
 abbrev pub gives_one : List (List ℕ) → List ℕ → Bool
 gives_one names word = list_any (λ name. is_some (behind name word)) names
 
 -- each of the options has the value that the words give it, and they give it at most one
 abbrev pub HaveValues : List Setting → List (List ℕ) → Type 0
-HaveValues [] words = Unit {0}
-HaveValues (option ∷ options) words = (values_of option.name words ≡ value_list option.value) × HaveValues options words
+HaveValues options words = AllByRecursion (λ option. values_of option.name words ≡ option_to_list option.value) options
 
 -- the words give these options, each at most once, in any order
 pub record Gives (words : List (List ℕ)) (options : List Setting) : Type 0 where

@@ -91,7 +91,7 @@ fn out_of_range(alloc: Global, low: &str, high: &str) -> Result<String, AllocErr
     format!(in alloc; "emulated-version: out of range {low} to {high}\n")
 }
 
-/// Why the release to emulate is refused, where the lowest that may be emulated is `floor`.
+/// Why the release to emulate is refused, with the releases that may be emulated.
 pub fn version_refusal(
     alloc: Global,
     accepted: &Accepted,

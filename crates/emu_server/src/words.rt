@@ -1,8 +1,9 @@
 //! The words of the command line.
 ghost use Rattle.std.specs.Prelude.{◌≡◌, ◌≢◌, ◌++◌, ◌∷◌, [], ℕ, List, IfSome, IfNone, codes, is_some};
 ghost use Rattle.std.specs.List.{list_any, list_all};
+ghost use Rattle.std.specs.Option.{option_to_list};
 ghost use Rattle.std.specs.declared.option.Option.{Option as TheOption};
-ghost use Rattle.emu_server.specs.Words.{AsksFor, GivesBoth, GivesThree, gives_one, GivesOptions, behind, command_name, texts_of, text_of, value_list, values_of};
+ghost use Rattle.emu_server.specs.Words.{AsksFor, GivesBoth, GivesThree, gives_one, GivesOptions, behind, command_name, texts_of, text_of, values_of};
 ghost use Rattle.emu_server.specs.declared.words.Command.{Command as TheCommand};
 
 const EMULATED_VERSION: &str = "--emulated-version=";
@@ -60,8 +61,8 @@ fn value_of<'a>(word: &'a str, name: &str) -> Option<&'a str>
 
 /// The value of an option that the words give at most once. None where they give it more often.
 fn only_value<'a>(words: &[&'a str], name: &str) -> Option<Option<&'a str>>
-    ensures some { IfSome result (λ o. values_of name.now (texts_of words.now) ≡ value_list (text_of o)) }
-    ensures none { IfNone result ((x : TheOption (List ℕ)) → values_of name.now (texts_of words.now) ≢ value_list x) }
+    ensures some { IfSome result (λ o. values_of name.now (texts_of words.now) ≡ option_to_list (text_of o)) }
+    ensures none { IfNone result ((x : TheOption (List ℕ)) → values_of name.now (texts_of words.now) ≢ option_to_list x) }
 {
     let mut found = None;
     for word in words {

@@ -12,32 +12,9 @@ use Rattle.lifecycle.specs.declared.entry.ApiEntry.{ApiEntry}
 use Rattle.schemas.specs.ApiRules.{name_of}
 use Rattle.basis.specs.NameMap.{value_at, is_same_name}
 use Rattle.history_rules.specs.Dates.{IsEvent, HasEarliest, PutsEarlier}
+use Rattle.basis.proofs.ElementLemmas.{Any-push_cases, Any-push_left}
 use Rattle.basis.proofs.NameLemmas.{same_parts}
 use Rattle.history_rules.specs.declared.dates.Event.{Event}
-
-any_uncons : {E : Type 0} (P : E → Type 0) (x : E) (xs : List E) (k : ℕ) (y : E) → k < length (x ∷ xs) → get_or (x ∷ xs) k y ≡ y → P y → P x ⊎ Any P xs
-any_uncons {E} P x xs zero y h e p = inl (subst P (sym e) p)
-any_uncons {E} P x xs (suc k) y h e p = inr (k, y, (omega arith), e, p)
-
-any_cons : {E : Type 0} (P : E → Type 0) (x : E) (xs : List E) → Any P xs → Any P (x ∷ xs)
-any_cons P x xs any = (suc any.0, any.1, (let k : any.0 < length xs = any.2 in omega arith), any.3, any.4)
-
-pub any_pushed : {E : Type 0} (P : E → Type 0) (xs : List E) (y : E) → Any P xs → Any P (xs ++ y ∷ [])
-any_pushed P [] y any = absurd (let k : any.0 < 0 = any.2 in omega arith)
-any_pushed {E} P (x ∷ xs) y any = elim (any_uncons P x xs any.0 any.1 any.2 any.3 any.4) [
-  | inl here ↦ (0, x, (omega arith), refl, here)
-  | inr more ↦ any_cons P x (xs ++ y ∷ []) (any_pushed P xs y more)
-]
-
-pub any_unpushed : {E : Type 0} (P : E → Type 0) (xs : List E) (y : E) → Any P (xs ++ y ∷ []) → Any P xs ⊎ P y
-any_unpushed P [] y any = elim (any_uncons P y [] any.0 any.1 any.2 any.3 any.4) [
-  | inl here ↦ inr here
-  | inr more ↦ inl more
-]
-any_unpushed {E} P (x ∷ xs) y any = elim (any_uncons P x (xs ++ y ∷ []) any.0 any.1 any.2 any.3 any.4) [
-  | inl here ↦ inl (0, x, (omega arith), refl, here)
-  | inr more ↦ elim (any_unpushed P xs y more) [ inl old ↦ inl (any_cons P x xs old) | inr new ↦ inr new ]
-]
 
 abbrev Dated : Type 0
 Dated = BTreeMap (Bor (List ℕ) × Bor (List ℕ) × Bor (List ℕ)) ℕ
@@ -50,10 +27,10 @@ at_own_name : (event : Event) (x : ApiEntry) (known : Option ℕ) (date : ℕ) (
 at_own_name event x known date xs e is sooner before =
     let P : ApiEntry → Type 0 = λ y. IsKnownOf (name_of x.group x.version x.resource) e y × IsEvent event y.change in (
       λ (h : date ≤ e). elim (sooner.0 h) [
-        | inl old ↦ any_pushed P xs x (before.0 old)
+        | inl old ↦ Any-push_left P xs x (before.0 old)
         | inr new ↦ Any-push P xs x (record { group = refl; version = refl; resource = refl; dated = new }, is)
       ],
-      λ any. elim (any_unpushed P xs x any) [
+      λ any. elim (Any-push_cases P xs x any) [
         | inl old ↦ sooner.1 (inl (before.1 old))
         | inr new ↦ sooner.1 (inr new.0.dated)
       ],
@@ -62,8 +39,8 @@ at_own_name event x known date xs e is sooner before =
 at_other_name : (event : Event) (x : ApiEntry) (known : Option ℕ) (xs : List ApiEntry) (group version resource : List ℕ) (e : ℕ) → is_same_name x.group x.version x.resource group version resource ≡ false → Agrees event xs known group version resource e → Agrees event (xs ++ x ∷ []) known group version resource e
 at_other_name event x known xs group version resource e other before =
     let P : ApiEntry → Type 0 = λ y. IsKnownOf (name_of group version resource) e y × IsEvent event y.change in (
-      λ h. any_pushed P xs x (before.0 h),
-      λ any. elim (any_unpushed P xs x any) [
+      λ h. Any-push_left P xs x (before.0 h),
+      λ any. elim (Any-push_cases P xs x any) [
         | inl old ↦ before.1 old
         | inr new ↦ (let k : IsKnownOf (name_of group version resource) e x = new.0 in absurd (false≢true (sym other ∙ same_parts x.group x.version x.resource group version resource k.group k.version k.resource)))
       ],
@@ -88,8 +65,8 @@ taken_in event x old new is put = λ (xs : List ApiEntry) (before : HasEarliest 
 pub passed_over : (event : Event) (x : ApiEntry) (dates : Dated) → ¬ IsEvent event x.change → (xs : List ApiEntry) → HasEarliest event xs dates → HasEarliest event (xs ++ x ∷ []) dates
 passed_over event x dates isnot = λ (xs : List ApiEntry) (before : HasEarliest event xs dates) (group version resource : List ℕ) (e : ℕ).
     let P : ApiEntry → Type 0 = λ y. IsKnownOf (name_of group version resource) e y × IsEvent event y.change in (
-      λ h. any_pushed P xs x ((before group version resource e).0 h),
-      λ any. elim (any_unpushed P xs x any) [
+      λ h. Any-push_left P xs x ((before group version resource e).0 h),
+      λ any. elim (Any-push_cases P xs x any) [
         | inl old ↦ (before group version resource e).1 old
         | inr new ↦ absurd (isnot new.1)
       ],

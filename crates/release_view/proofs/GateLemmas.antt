@@ -7,6 +7,7 @@ use Rattle.std.proofs.lemmas.Bool.{false≢true}
 use Rattle.std.proofs.lemmas.List.Elements.{All-from_recursion, All-filter, All-contains, Contains-get_or}
 use Rattle.std.proofs.lemmas.Option.{slice_get-get_or}
 use Rattle.std.proofs.lemmas.Slice.Eq.{bytes_eq-Decides}
+use Rattle.basis.proofs.ElementLemmas.{Any-from}
 use Rattle.flag_text.specs.Pieces.{FlagPiece, pieces, last_pieces}
 use Rattle.flag_text.specs.Said.{said}
 use Rattle.flag_text.specs.declared.vocabulary.Vocabulary.TheVariants.{Go}
@@ -27,7 +28,7 @@ use Rattle.schemas.specs.Rules.{IsAccepted}
 use Rattle.schemas.specs.Shapes.{IsGateName, IsShapedGate}
 use Rattle.schemas.proofs.LawLemmas.{gates_rise}
 use Rattle.release_view.specs.Gates.{IsRowOf, AreGatesOf}
-use Rattle.release_view.proofs.ListLemmas.{found, any_of, witness}
+use Rattle.release_view.proofs.ListLemmas.{found, witness}
 
 -- no text speaks of the stage of a locked gate
 no_stage : (stage : Stage) (default : Bool) (ps : List FlagPiece) → IsFitSpec (Spec stage default true) → all_given ps stage ≡ None
@@ -95,7 +96,7 @@ module _ (h : Dated) (shaped : IsShaped h) (accepted : IsAccepted h) (e : ℕ) (
           (subst (λ l. IsFoundIn tables row.name row.stage row.default l) of.of_locked there))),
       λ there.
           let row : GateRow = record { name = name; stage = stage; default = default; locked = locked; value = gate_value (pieces text) name stage default } in
-          any_of (IsRowOf name stage default locked) gates.rows row ((values.rows row).1 (record { found = there; value = refl }))
+          Any-from (IsRowOf name stage default locked) gates.rows row ((values.rows row).1 (record { found = there; value = refl }))
           (record { of_name = refl; of_stage = refl; of_default = refl; of_locked = refl }),
     )
 

@@ -3,6 +3,7 @@ use Rattle.std.proofs.Common.{◌≡◌, ◌↔◌, ◌⊎◌, inl, inr, ℕ, �
 use Rattle.std.specs.BTreeSet.{insert_key}
 use Rattle.std.proofs.lemmas.Bool.{both_ways}
 use Rattle.std.proofs.lemmas.List.{take_all}
+use Rattle.basis.proofs.ElementLemmas.{Any-from}
 use Rattle.basis.proofs.ElementLemmas.{Any-push_iff}
 use Rattle.lifecycle.specs.Entry.{GroupVersionResource, subject}
 use Rattle.lifecycle.specs.Tables.{decodable}
@@ -11,7 +12,7 @@ use Rattle.release_view.specs.Known.{Tables, name_of, IsKnown, AreInPlace, Has, 
 use Rattle.release_view.specs.Parts.{IsGathered, Speaks}
 use Rattle.release_view.specs.declared.known.KnownVersion.{KnownVersion}
 use Rattle.release_view.proofs.KnownLemmas.{same_version, tied_known}
-use Rattle.release_view.proofs.ListLemmas.{any_of, witness, inserted, among_inserted}
+use Rattle.release_view.proofs.ListLemmas.{witness, inserted, among_inserted}
 
 module _ (tables : Tables) (on_names : List GroupVersionResource) (first : List ApiEntry) (x : ApiEntry) where
   more : (name : GroupVersionResource) → Speaks (first ++ x ∷ []) name → Speaks first name ⊎ (subject x ≡ name)
@@ -64,8 +65,8 @@ module _ (tables : Tables) (on_names : List GroupVersionResource) (first : List 
 
     is_each : (name : GroupVersionResource) → Speaks (first ++ x ∷ []) name → decodable tables.apis name ≡ true → Has (insert_key by_place versions v) name
     is_each name speaks reads = elim (more name speaks) [
-      | inl before ↦ (let (w, there, named) = witness (λ y. name_of y ≡ name) versions (h.each name before reads) in any_of (λ y. name_of y ≡ name) (insert_key by_place versions v) w (kept w there) named)
-      | inr here ↦ any_of (λ y. name_of y ≡ name) (insert_key by_place versions v) v new (is_named ∙ here)
+      | inl before ↦ (let (w, there, named) = witness (λ y. name_of y ≡ name) versions (h.each name before reads) in Any-from (λ y. name_of y ≡ name) (insert_key by_place versions v) w (kept w there) named)
+      | inr here ↦ Any-from (λ y. name_of y ≡ name) (insert_key by_place versions v) v new (is_named ∙ here)
     ]
 
     -- an entry of a known version

@@ -25,9 +25,6 @@ contained [] w h = absurd h
 contained (x ∷ xs) w (inl e) = (0, omega arith, e)
 contained (x ∷ xs) w (inr h) = let r = contained xs w h in (suc r.0, (let below = r.1 in omega arith), r.2)
 
-pub any_of : {X : Type 0} (P : X → Type 0) (xs : List X) (x : X) → Contains xs x → P x → Any P xs
-any_of P xs x h p = (h.0, x, h.1, h.2, p)
-
 get_any : {X : Type 0} (xs : List X) (k : ℕ) (x : X) → k < length xs → get_or xs k x ≡ x → Contains xs x
 get_any xs k x below is = (k, below, is)
 

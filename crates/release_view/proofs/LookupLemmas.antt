@@ -10,6 +10,7 @@ use Rattle.std.proofs.lemmas.Cmp.{tied_itself, nat_list_cmp_total}
 use Rattle.std.proofs.lemmas.List.Elements.{All-cons, All-from_recursion}
 use Rattle.std.proofs.lemmas.Map.Keys.{sorted_head, sorted_tail}
 use Rattle.std.proofs.lemmas.Slice.Eq.{bytes_eq-Decides}
+use Rattle.basis.proofs.NameLemmas.{same_bytes}
 use Rattle.lifecycle.specs.Entry.{GroupVersionResource}
 use Rattle.lifecycle.specs.Stability.{by_stability}
 use Rattle.lifecycle.specs.Tables.{decodable, live, warning}
@@ -22,11 +23,8 @@ use Rattle.release_view.specs.declared.known.KnownVersion.{KnownVersion}
 use Rattle.release_view.specs.declared.served.ServedVersion.{ServedVersion}
 use Rattle.release_view.proofs.ListLemmas.{found, finds, witness, some_from, some-find, given_of, gives}
 
-same_bytes : (a b : List ℕ) → bytes_eq a b ≡ true → a ≡ b
-same_bytes a b h = (bytes_eq-Decides a b).0 h
-
-bytes_same : (a b : List ℕ) → a ≡ b → bytes_eq a b ≡ true
-bytes_same a b h = (bytes_eq-Decides a b).1 h
+equal_bytes : (a b : List ℕ) → bytes_eq a b ≡ true → a ≡ b
+equal_bytes a b h = (bytes_eq-Decides a b).0 h
 
 module _ (name : GroupVersionResource) (group version resource : List ℕ) where
   abbrev given : GroupVersionResource
@@ -39,16 +37,16 @@ module _ (name : GroupVersionResource) (group version resource : List ℕ) where
   named_so h =
       let (front, r) = and_parts (bytes_eq group name.group && bytes_eq version name.version) (bytes_eq resource name.resource) h in
       let (g, v) = and_parts (bytes_eq group name.group) (bytes_eq version name.version) front in
-      let p = same_bytes group name.group g in
-      let q = same_bytes version name.version v in
-      let s = same_bytes resource name.resource r in
+      let p = equal_bytes group name.group g in
+      let q = equal_bytes version name.version v in
+      let s = equal_bytes resource name.resource r in
       λ i. record { group = p i; version = q i; resource = s i }
 
   so_named : given ≡ name → agrees ≡ true
   so_named h =
       and_from (bytes_eq group name.group && bytes_eq version name.version) (bytes_eq resource name.resource)
-      (and_from (bytes_eq group name.group) (bytes_eq version name.version) (bytes_same group name.group (ap (λ n. n.group) h)) (bytes_same version name.version (ap (λ n. n.version) h)))
-      (bytes_same resource name.resource (ap (λ n. n.resource) h))
+      (and_from (bytes_eq group name.group) (bytes_eq version name.version) (same_bytes group name.group (ap (λ n. n.group) h)) (same_bytes version name.version (ap (λ n. n.version) h)))
+      (same_bytes resource name.resource (ap (λ n. n.resource) h))
 
 named_of : (name : GroupVersionResource) (v : KnownVersion) → has_name name v ≡ true → name_of v ≡ name
 named_of name v h = named_so name v.table.group v.table.version v.table.resource h
@@ -124,8 +122,8 @@ module _ (tables : Tables) (on_names : List GroupVersionResource) (versions : Li
         let (among, passes) = found (is_live_of group resource) versions v e in
         let (front, r) = and_parts (v.live && bytes_eq v.table.group group) (bytes_eq v.table.resource resource) passes in
         let (is_live, g) = and_parts v.live (bytes_eq v.table.group group) front in
-        let p = same_bytes v.table.group group g in
-        let q = same_bytes v.table.resource resource r in
+        let p = equal_bytes v.table.group group g in
+        let q = equal_bytes v.table.resource resource r in
         let named : name_of v ≡ record { group = group; version = v.table.version; resource = resource } = λ i. record { group = p i; version = v.table.version; resource = q i } in
         (v.table.version, ap (live tables.apis) (sym named) ∙ sym (is_known v among).is_live ∙ is_live),
     λ h.
@@ -135,8 +133,8 @@ module _ (tables : Tables) (on_names : List GroupVersionResource) (versions : Li
         let is_live : v.live ≡ true = (is_known v among).is_live ∙ ap (live tables.apis) named ∙ h.1 in
         let passes : is_live_of group resource v ≡ true =
         and_from (v.live && bytes_eq v.table.group group) (bytes_eq v.table.resource resource)
-        (and_from v.live (bytes_eq v.table.group group) is_live (bytes_same v.table.group group (ap (λ n. n.group) named)))
-        (bytes_same v.table.resource resource (ap (λ n. n.resource) named)) in
+        (and_from v.live (bytes_eq v.table.group group) is_live (same_bytes v.table.group group (ap (λ n. n.group) named)))
+        (same_bytes v.table.resource resource (ap (λ n. n.resource) named)) in
         sym (some-find (is_live_of group resource) versions) ∙ finds (is_live_of group resource) versions v among passes,
   )
 
@@ -162,7 +160,7 @@ module _ (group resource : List ℕ) where
   group_of v h =
       let (front, r) = and_parts (v.live && bytes_eq v.table.group group) (bytes_eq v.table.resource resource) h in
       let (is_live, g) = and_parts v.live (bytes_eq v.table.group group) front in
-      same_bytes v.table.group group g
+      equal_bytes v.table.group group g
 
   behind : (v w : KnownVersion) → is_live_of group resource v ≡ true → by_place v w ≡ Less → is_live_of group resource w ≡ true → by_stability v.word w.word ≡ Greater → ⊥
   behind v w p less q worse =

@@ -3,8 +3,8 @@ use Rattle.std.proofs.Common.{ℕ, ◌≡◌, ◌<◌, ◌≤◌, List, Some, le
 use Rattle.std.specs.Prelude.{slice_get, All, filter, Bool}
 use Rattle.std.proofs.lemmas.Bool.{cases_order}
 use Rattle.std.proofs.lemmas.List.{get_or-take, length-take-le}
-use Rattle.std.proofs.lemmas.List.Elements.{All-contains, All-contains_itself, All-filter}
 use Rattle.std.proofs.lemmas.Option.{get_or_from_slice_get}
+use Rattle.basis.proofs.FilterLemmas.{Contains-from_filter}
 use Rattle.fields.specs.declared.field.Field.{Field}
 use Rattle.fields.specs.declared.field.Spell.{Spell}
 use Rattle.schemas.specs.Cutoff.{fields_by, spells_by}
@@ -38,13 +38,10 @@ one_entry {E} R xs each x y at_x at_y one two =
       ]
     ]
 
-pub in_all : {E : Type 0} (p : E → Bool) (xs : List E) (x : E) → Contains (filter p xs) x → Contains xs x
-in_all p xs x there = All-contains (Contains xs) (filter p xs) x (All-filter p (Contains xs) xs (All-contains_itself xs)) there
-
 pub fields_once : (h : Dated) (e : ℕ) → IsAccepted h → AreFieldsOnce (fields_by h.fields e)
-fields_once h e lawful = λ (f g : Field) in_f in_g (same : AreOneField f g). one_entry AreOneField h.fields (λ k x at. (lawful.fields_belong k x at).once) f g (in_all _ h.fields f in_f) (in_all _ h.fields g in_g) same
+fields_once h e lawful = λ (f g : Field) in_f in_g (same : AreOneField f g). one_entry AreOneField h.fields (λ k x at. (lawful.fields_belong k x at).once) f g (Contains-from_filter _ h.fields f in_f) (Contains-from_filter _ h.fields g in_g) same
     (record { group = sym same.group; resource = sym same.resource; id = sym same.id })
 
 pub spells_once : (h : Dated) (e : ℕ) → IsAccepted h → AreSpellsOnce (spells_by h.spells e)
-spells_once h e lawful = λ (s t : Spell) in_s in_t (same : AreOfOnePair s t). one_entry AreOfOnePair h.spells (λ k x at. (lawful.spelled_once k x at).single) s t (in_all _ h.spells s in_s) (in_all _ h.spells t in_t) same
+spells_once h e lawful = λ (s t : Spell) in_s in_t (same : AreOfOnePair s t). one_entry AreOfOnePair h.spells (λ k x at. (lawful.spelled_once k x at).single) s t (Contains-from_filter _ h.spells s in_s) (Contains-from_filter _ h.spells t in_t) same
     (record { group = sym same.0.group; version = sym same.0.version; resource = sym same.0.resource }, sym same.1)

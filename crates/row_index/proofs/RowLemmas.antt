@@ -23,7 +23,8 @@ use Rattle.std.proofs.lemmas.List.{map-append}
 use Rattle.std.proofs.lemmas.Option.{slice_get_within, get_or_from_slice_get}
 use Rattle.std.proofs.lemmas.Slice.Eq.{bytes_eq-Decides}
 use Rattle.basis.specs.NameMap.{is_same_name}
-use Rattle.basis.proofs.ElementLemmas.{Any-weaker}
+use Rattle.basis.proofs.ElementLemmas.{Any-from, Any-weaker}
+use Rattle.basis.proofs.FilterLemmas.{Contains-filter, Contains-from_filter, passes_from_filter}
 use Rattle.basis.proofs.NameLemmas.{same_parts}
 use Rattle.fields.specs.Order.{Rises, IsBelow}
 use Rattle.fields.proofs.MapLemmas.{rises_before}
@@ -41,7 +42,6 @@ use Rattle.schemas.specs.Pairs.{IsOfField, IsOfVersion, IsSpelling}
 use Rattle.schemas.specs.Rows.{IsSpelledAs, IsRow, AreRows}
 use Rattle.row_index.specs.Made.{is_on, spelling_in, row_as, row_in, rows_in, AreApartById, RiseById, HoldsById}
 use Rattle.row_index.specs.Once.{AreFieldsOnce, AreSpellsOnce}
-use Rattle.row_index.proofs.OnceLemmas.{in_all}
 
 -- ---- gates
 
@@ -73,9 +73,6 @@ guard_read gates guard gate bytes o is same says =
 
 -- ---- entries of a list
 
-any_of : {X : Type 0} (P : X → Type 0) (xs : List X) (x : X) → Contains xs x → P x → Any P xs
-any_of P xs x h p = (h.0, x, h.1, h.2, p)
-
 contained : {X : Type 0} (P : X → Type 0) (xs : List X) → (any : Any P xs) → Contains xs any.1
 contained P xs any = (any.0, any.2, any.3)
 
@@ -84,21 +81,6 @@ one_in y x h = elim (Contains-push_cases [] y x h) [ inl none ↦ absurd (let be
 
 at_head : {X : Type 0} (x : X) (xs : List X) → Contains (x ∷ xs) x
 at_head x xs = Contains-append_left (x ∷ []) xs x (Contains-push [] x)
-
-passes_filter : {X : Type 0} (p : X → Bool) (xs : List X) (x : X) → Contains (filter p xs) x → p x ≡ true
-passes_filter p xs x h = All-contains (λ y. p y ≡ true) (filter p xs) x (filter_passes p xs) h
-
-in_filter : {X : Type 0} (p : X → Bool) (xs : List X) (x : X) → Contains xs x → p x ≡ true → Contains (filter p xs) x
-in_filter p [] x h t = h
-in_filter p (y ∷ ys) x h t = elim (Contains-append_cases (y ∷ []) ys x h) [
-  | inl here ↦
-      let same : y ≡ x = one_in y x here in
-      subst (λ l. Contains l x) (sym (cond-true (p y) (y ∷ filter p ys) (filter p ys) (ap p same ∙ t))) (subst (λ z. Contains (z ∷ filter p ys) x) (sym same) (at_head x (filter p ys)))
-  | inr later ↦ elim (cases_Bool (p y)) [
-    | inl kept ↦ subst (λ l. Contains l x) (sym (cond-true (p y) (y ∷ filter p ys) (filter p ys) kept)) (Contains-append_right (y ∷ []) (filter p ys) x (in_filter p ys x later t))
-    | inr out ↦ subst (λ l. Contains l x) (sym (cond-false (p y) (y ∷ filter p ys) (filter p ys) out)) (in_filter p ys x later t)
-  ]
-]
 
 abbrev Found : {X : Type 0} → (X → Bool) → List X → Option X → Type 0
 Found p xs o = IfSome o (λ y. Contains xs y × (p y ≡ true))
@@ -207,10 +189,10 @@ module _ (fields : List Field) (spells : List Spell) (name : GroupVersionResourc
   is_of_version s = is_same_name s.group s.version s.resource name.group name.version name.resource
 
   field_of : (f : Field) → Contains (filter is_of_resource fields) f → Contains fields f × (f.group ≡ name.group) × (f.resource ≡ name.resource)
-  field_of f h = let parts = parts_same f.group f.resource [] name.group name.resource [] (passes_filter is_of_resource fields f h) in (in_all is_of_resource fields f h, parts.0, parts.1)
+  field_of f h = let parts = parts_same f.group f.resource [] name.group name.resource [] (passes_from_filter is_of_resource fields f h) in (Contains-from_filter is_of_resource fields f h, parts.0, parts.1)
 
   spell_of : (s : Spell) → Contains (filter is_of_version spells) s → Contains spells s × IsOfVersion name s
-  spell_of s h = let parts = parts_same s.group s.version s.resource name.group name.version name.resource (passes_filter is_of_version spells s h) in (in_all is_of_version spells s h, record { group = sym parts.0; version = sym parts.1; resource = sym parts.2 })
+  spell_of s h = let parts = parts_same s.group s.version s.resource name.group name.version name.resource (passes_from_filter is_of_version spells s h) in (Contains-from_filter is_of_version spells s h, record { group = sym parts.0; version = sym parts.1; resource = sym parts.2 })
 
   -- in the list of the resource a field is known by its id
   pub apart_by_id : AreFieldsOnce fields → AreApartById (filter is_of_resource fields)
@@ -222,8 +204,8 @@ module _ (fields : List Field) (spells : List Spell) (name : GroupVersionResourc
   -- a field and a spelling of it are in the lists of the resource and of the version
   in_lists : (f : Field) (s : Spell) → Contains fields f → Contains spells s → IsSpelling f name s → Contains (filter is_of_resource fields) f × Contains (filter is_of_version spells) s
   in_lists f s in_f in_s spelling = (
-    in_filter is_of_resource fields f in_f (same_parts f.group f.resource [] name.group name.resource [] (spelling.0.group ∙ sym spelling.1.group) (spelling.0.resource ∙ sym spelling.1.resource) refl),
-    in_filter is_of_version spells s in_s (same_parts s.group s.version s.resource name.group name.version name.resource (sym spelling.1.group) (sym spelling.1.version) (sym spelling.1.resource)),
+    Contains-filter is_of_resource fields f in_f (same_parts f.group f.resource [] name.group name.resource [] (spelling.0.group ∙ sym spelling.1.group) (spelling.0.resource ∙ sym spelling.1.resource) refl),
+    Contains-filter is_of_version spells s in_s (same_parts s.group s.version s.resource name.group name.version name.resource (sym spelling.1.group) (sym spelling.1.version) (sym spelling.1.resource)),
   )
 
   module _ (gates : Gates) where
@@ -271,7 +253,7 @@ module _ (fields : List Field) (spells : List Spell) (name : GroupVersionResourc
           let is_spell = spell_of s there.0 in
           let of : IsOfField f s = record { group = is_field.1 ∙ is_spell.1.group; resource = is_field.2 ∙ is_spell.1.resource; id = sym ((bytes_eq-Decides s.field f.id).0 there.1) } in
           let as_spelled = spelled_as gates f s row spelled.2 in
-          any_of (λ g. Any (Gives row g) spells) fields f is_field.0 (any_of (Gives row f) spells s is_spell.0 ((of, is_spell.1), as_spelled.0, as_spelled.1))
+          Any-from (λ g. Any (Gives row g) spells) fields f is_field.0 (Any-from (Gives row f) spells s is_spell.0 ((of, is_spell.1), as_spelled.0, as_spelled.1))
 
       row_to : AreSpellsOnce spells → (row : FieldRow) → IsRow IsOn fields spells name row → Contains made row
       row_to once row is =
