@@ -14,8 +14,9 @@ use Rattle.std.proofs.lemmas.List.Filters.{All-dedup}
 use Rattle.std.proofs.lemmas.List.Kept.{Contains-from_dedup, IsStrictlySortedBy-filter}
 use Rattle.std.proofs.lemmas.Map.Lookups.{exact_bytes}
 use Rattle.std.proofs.lemmas.Slice.Eq.{bytes_eq-Decides}
+use Rattle.basis.proofs.ElementLemmas.{Any-from}
 use Rattle.release_view.specs.declared.served.ServedVersion.{ServedVersion}
-use Rattle.release_view.proofs.ListLemmas.{Member, member, contained, any_of, witness}
+use Rattle.release_view.proofs.ListLemmas.{Member, member, contained, witness}
 use Rattle.discovery.specs.Groups.{is_in, is_core, names_in, versions_in}
 use Rattle.discovery.specs.Laws.{AreListed}
 use Rattle.discovery.specs.Order.{GroupsRise}
@@ -132,7 +133,7 @@ module _ (served : List ServedVersion) where
     λ there.
         let (kept, named) = from_filter (λ k. not (is_core k)) (dedup bytes_eq groups) g (member (names_in served) g there) in
         let (s, among, is) = from_map (λ (s : ServedVersion). s.group) served g (from_dedup groups g kept) in
-        (not_empty g named, any_of (λ s. s.group ≡ g) served s (contained served s among) is),
+        (not_empty g named, Any-from (λ s. s.group ≡ g) served s (contained served s among) is),
     λ listed.
         let (s, among, is) = witness (λ s. s.group ≡ g) served listed.1 in
         let one : Member g groups = subst (λ k. Member k groups) is (to_map (λ (s : ServedVersion). s.group) served s (member served s among)) in
@@ -146,7 +147,7 @@ module _ (served : List ServedVersion) where
         λ there.
             let (s, among, is) = from_map (λ (s : ServedVersion). s.version) own v (from_dedup texts v (member (versions_in served g) v there)) in
             let (inside, passes) = from_filter (is_in g) served s among in
-            any_of (λ s. (s.group ≡ g) × (s.version ≡ v)) served s (contained served s inside) ((bytes_eq-Decides s.group g).0 passes, is),
+            Any-from (λ s. (s.group ≡ g) × (s.version ≡ v)) served s (contained served s inside) ((bytes_eq-Decides s.group g).0 passes, is),
         λ any.
             let (s, among, is) = witness (λ s. (s.group ≡ g) × (s.version ≡ v)) served any in
             let inside : Member s own = to_filter (is_in g) served s (member served s among) ((bytes_eq-Decides s.group g).1 is.0) in
