@@ -1,25 +1,15 @@
 -- What an opening recovers.
 use Rattle.std.proofs.Common.{◌≡◌, ℕ, List, subst, sym, ◌∙◌}
-use Rattle.disk.specs.declared.file.File.{File}
-use Rattle.disk.specs.Images.{Pending, Images}
-use Rattle.disk.specs.Moments.{Moments}
-use Rattle.disk.specs.ImageLaws.{weaker}
 use Rattle.object_journal.specs.declared.entry.Entry.{Entry}
 use Rattle.object_journal.specs.Journal.{IsJournal, revision_after}
-use Rattle.object_journal.specs.Standing.{chosen, MeansSame, LeavesMeaning}
+use Rattle.object_journal.specs.Standing.{MeansSame}
 use Rattle.object_store.specs.declared.item.Item.{Item}
 use Rattle.object_store.specs.Records.{AreRecords, RecoversTo}
-use Rattle.object_store.specs.Stores.{KeepsRecords, LeavesSame}
+use Rattle.object_store.specs.Stores.{KeepsRecords}
 use Rattle.object_store.proofs.NextLemmas.{one_records}
 
 pub keeps : (old new : List ℕ) → MeansSame old new → KeepsRecords old new
 keeps old new same items revision r = record { base = r.base; entries = r.entries; means = same.means r.base r.entries r.means; records = r.records; revision_is = r.revision_is }
-
-pub same_moments : {D : Type 0} (clock : D → ℕ) (may_leave : D → ℕ → Images → Type 0) (held : D → Images) (pending : D → File → Pending) (old new : D)
-    → Moments clock may_leave old new (λ _. LeavesMeaning (held old) (pending old)) → Moments clock may_leave old new (λ _. LeavesSame (held old) (pending old))
-same_moments clock may_leave held pending old new m =
-    weaker clock may_leave old new (λ _. LeavesMeaning (held old) (pending old)) (λ _. LeavesSame (held old) (pending old))
-    (λ t i above le l. record { file = keeps (held old chosen) (i chosen) l.file; others = l.others }) m
 
 -- where bytes have one reading, they give one list
 pub one_given : (bytes : List ℕ) (xs ys : List Item) (n m : ℕ)

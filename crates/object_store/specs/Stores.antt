@@ -90,8 +90,3 @@ pub record MeanOne (old new : List ℕ) : Type 0 where
   pub first : IsJournal old base entries
   pub second : IsJournal new base entries
   pub mended : IsMended old base new
-
--- a stop leaves the records that the file gave
-pub record LeavesSame (held : Images) (pending : File → Pending) (images : Images) : Type 0 where
-  pub file : KeepsRecords (held chosen) (images chosen)
-  pub others : OthersMayBe pending images

@@ -7,9 +7,9 @@ ghost use Rattle.disk.specs.declared.file.File.{File as FileS};
 ghost use Rattle.object_journal.specs.declared.entry.Entry.{Entry};
 ghost use Rattle.object_journal.specs.declared.opening.OpenFault.TheVariants.{NotAStore};
 ghost use Rattle.object_journal.specs.Journal.{IsRefusal};
-ghost use Rattle.object_journal.specs.Standing.{chosen, OthersStay, IsMended, OpensOver};
+ghost use Rattle.object_journal.specs.Standing.{chosen, OthersStay, IsMended, LeavesMeaning, OpensOver};
 ghost use Rattle.object_store.specs.Records.{RecoversTo};
-ghost use Rattle.object_store.specs.Stores.{HasEntries, MeanOne, LeavesSame};
+ghost use Rattle.object_store.specs.Stores.{HasEntries, MeanOne};
 
 use crate::recovered::Recovered;
 use crate::store::Store;
@@ -30,7 +30,7 @@ pub fn open_store<D: Disk>(alloc: Global, disk: &mut D) -> Result<Store, OpenFau
     ensures memory { D.tells → IsErrOf result OpenFault.Memory → (D.held disk.new ≡ D.held disk.old) ⊎ MeanOne (D.held disk.old chosen) (D.held disk.new chosen) }
     ensures synced { D.tells → ¬ IsErrOf result OpenFault.Disk → IsStill (D.held disk.new) (D.pending disk.new) chosen }
     ensures time { D.tells → OpensOver D.clock D.may_leave D.held D.pending disk.old disk.new }
-    ensures still { D.tells → IsStill (D.held disk.old) (D.pending disk.old) chosen → Moments D.clock D.may_leave disk.old disk.new (λ _. LeavesSame (D.held disk.old) (D.pending disk.old)) }
+    ensures still { D.tells → IsStill (D.held disk.old) (D.pending disk.old) chosen → Moments D.clock D.may_leave disk.old disk.new (λ _. LeavesMeaning (D.held disk.old) (D.pending disk.old)) }
     ensures others { D.tells → OthersStay (D.held disk.old) (D.held disk.new) (D.pending disk.old) (D.pending disk.new) }
     ensures beside { D.beside disk.new ≡ D.beside disk.old }
     ensures later { D.faults disk.old ≤ D.faults disk.new }

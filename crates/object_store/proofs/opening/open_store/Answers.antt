@@ -2,17 +2,7 @@ use Rattle.std.proofs.Common.{◌≡◌, ap, arith}
 use Rattle.std.specs.Prelude.{Err}
 use Rattle.object_journal.specs.declared.opening.OpenFault.TheVariants.{NotAStore}
 use Rattle.object_store.proofs.NextLemmas.{texts_of_records}
-use Rattle.object_store.proofs.OpenLemmas.{same_moments}
 use Rattle.object_store.proofs.opening.open_store.Goals as goal
-
-pub returns-in-Err-clause-still : goal.returns-in-Err-clause-still
-returns-in-Err-clause-still g c told still = let d = g.D.Disk in same_moments d.clock d.may_leave d.held d.pending c.args.disk.now c.open_journal_into.new.disk (c.open_journal_into.ensures.still told still)
-
-pub returns-in-Ok-listed-clause-still : goal.returns-in-Ok-listed-clause-still
-returns-in-Ok-listed-clause-still g c told still = let d = g.D.Disk in same_moments d.clock d.may_leave d.held d.pending c.args.disk.now c.open_journal_into.new.disk (c.open_journal_into.ensures.still told still)
-
-pub returns-in-Err-listed-clause-still : goal.returns-in-Err-listed-clause-still
-returns-in-Err-listed-clause-still g c told still = let d = g.D.Disk in same_moments d.clock d.may_leave d.held d.pending c.args.disk.now c.open_journal_into.new.disk (c.open_journal_into.ensures.still told still)
 
 pub returns-in-Err-clause-refused : goal.returns-in-Err-clause-refused
 returns-in-Err-clause-refused g c told file at is =
