@@ -1,11 +1,11 @@
 -- What an opening leaves, from its first sync on.
-use Rattle.std.proofs.Common.{◌≡◌, inl, inr, ⊎_elim, ℕ, ◌≤◌, ◌<◌, List, [], ◌∷◌, ◌++◌, length, refl, sym, ap, subst, ◌∙◌, arith}
-use Rattle.std.specs.Prelude.{Result, Ok, Err}
+use Rattle.std.proofs.Common.{◌≡◌, inl, inr, ⊎_elim, ℕ, ◌+◌, ◌≤◌, ◌<◌, List, [], ◌∷◌, ◌++◌, length, refl, sym, ap, subst, ◌∙◌, arith}
+use Rattle.std.specs.Prelude.{false, true, Result, Ok, Err, IsErr}
 use Rattle.std.proofs.lemmas.Bool.{cases_lt}
 use Rattle.disk.specs.declared.file.File.{File}
 use Rattle.disk.specs.declared.file.File.TheVariants.{Left}
 use Rattle.disk.specs.Images.{Pending, Images, Each, IsStill, OthersWithin, Within, same_file, end_of_lengths}
-use Rattle.disk.specs.Moments.{Moments, Unchanged}
+use Rattle.disk.specs.Moments.{Moments, Ticks, Unchanged}
 use Rattle.disk.specs.ImageLaws.{image_now, within_image, goes_on, weaker}
 use Rattle.object_journal.specs.declared.entry.Entry.{Entry}
 use Rattle.object_journal.specs.declared.opening.OpenFault.{OpenFault}
@@ -19,6 +19,10 @@ use Rattle.object_journal.proofs.MendLemmas.{no_entries}
 
 same_bytes : (b c : List ℕ) → c ≡ b → MeansSame b c
 same_bytes b c is = record { means = λ base es j. subst (λ (t : List ℕ). IsJournal t base es) (sym is) j; refused = λ place r. is }
+
+-- a call whose result is good raises the clock
+pub rises : {T E : Type 0} (before now : ℕ) (r : Result T E) (v : T) → r ≡ Ok v → Ticks before now r → before < now
+rises before now r v is ticks = ⊎_elim (λ rose. rose) (λ last. absurd (let e : false ≡ true = subst IsErr is (ticks.ends last) in cc)) ticks.rises
 
 -- what a still file may leave
 pub leaves_still : (held : Images) (pending : File → Pending) (i : Images) → IsStill held pending chosen → Each pending i → LeavesMeaning held pending i
@@ -45,24 +49,32 @@ module _ {D : Type 0} (clock : D → ℕ) (may_leave : D → ℕ → Images → 
   read_on_moments old mid new same still m = goes_on clock may_leave old mid new _ (read_moments old mid _ same still)
       (subst (λ (s : Images × (File → Pending)). Moments clock may_leave mid new (λ _. LeavesMeaning s.0 s.1)) (λ i. (same.held i, same.pending i)) m)
 
-  pub opens : (old mid new : D) → held mid ≡ held old → OthersWithin chosen (pending old) (pending mid)
-      → Moments clock may_leave old mid (λ _. Each (pending old)) → Moments clock may_leave mid new (λ _. LeavesMeaning (held mid) (pending mid)) → OpensOver clock may_leave held pending old new
-  opens old mid new same within first second = record {
+  pub opens : (good : Type 0) (old mid new : D) → clock old < clock mid → held mid ≡ held old → IsStill (held mid) (pending mid) chosen → OthersWithin chosen (pending old) (pending mid)
+      → ((i : Images) → may_leave mid (clock mid) i → Each (pending mid) i)
+      → Moments clock may_leave old mid (λ _. Each (pending old)) → Moments clock may_leave mid new (λ _. LeavesMeaning (held mid) (pending mid)) → OpensOver clock may_leave held pending good old new
+  opens good old mid new rose same still within present first second = record {
     synced = clock mid;
-    from = first.later;
-    to = second.later;
-    before = λ t i above le now. first.added t i above le ((second.kept t i le).0 now);
-    after = λ t i above le now. leaves_from (held old) (held mid) (pending old) (pending mid) i same within (second.added t i above le now);
+    from = rose;
+    to = omega (arith, second.later);
+    ends = λ _. second.later;
+    before = λ t i above below now. let le : t ≤ clock mid = omega (arith, below) in first.added t i above le ((second.kept t i le).0 now);
+    after = λ t i from le now. leaves_from (held old) (held mid) (pending old) (pending mid) i same within (⊎_elim
+        (λ (later : clock mid < t). second.added t i later le now)
+        (λ (at : t ≤ clock mid).
+        let is : t ≡ clock mid = omega (arith, at, from) in
+        leaves_still (held mid) (pending mid) i still (present i (subst (λ (n : ℕ). may_leave mid n i) is ((second.kept t i at).0 now))))
+        (cases_lt (clock mid) t));
     kept = λ t i le. let a = first.kept t i le in let b = second.kept t i (omega (arith, le, first.later)) in (λ x. a.0 (b.0 x), λ x. b.1 (a.1 x));
   }
 
-  pub opens_not : (old new : D) → Moments clock may_leave old new (λ _. Each (pending old)) → OpensOver clock may_leave held pending old new
-  opens_not old new m = record {
-    synced = clock new;
-    from = m.later;
+  pub opens_not : (good : Type 0) (old new : D) → ¬ good → Moments clock may_leave old new (λ _. Each (pending old)) → OpensOver clock may_leave held pending good old new
+  opens_not good old new failed m = record {
+    synced = clock new + 1;
+    from = omega (arith, m.later);
     to = omega arith;
-    before = λ t i above le now. m.added t i above le now;
-    after = λ t i above le now. absurd (omega (arith, above, le));
+    ends = λ g. absurd (failed g);
+    before = λ t i above below now. m.added t i above (omega (arith, below)) now;
+    after = λ t i from le now. absurd (omega (arith, from, le));
     kept = m.kept;
   }
 

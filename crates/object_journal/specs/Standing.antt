@@ -89,13 +89,15 @@ pub record LeavesMeaning (held : Images) (pending : File → Pending) (images : 
   pub long : 17 < length (held chosen) → images chosen ≡ held chosen
   pub others : OthersMayBe pending images
 
--- Up to the end of the first sync a stop leaves what was pending, and later what the file held, or what means the same.
-pub record OpensOver {D : Type 0} (clock : D → ℕ) (may_leave : D → ℕ → Images → Type 0) (held : D → Images) (pending : D → File → Pending) (old new : D) : Type 0 where
+-- Before the end of the first sync a stop leaves what was pending; from it on, what the file held, or what means the same. A first sync that
+-- is good ends within the call.
+pub record OpensOver {D : Type 0} (clock : D → ℕ) (may_leave : D → ℕ → Images → Type 0) (held : D → Images) (pending : D → File → Pending) (good : Type 0) (old new : D) : Type 0 where
   pub synced : ℕ
-  pub from : clock old ≤ synced
-  pub to : synced ≤ clock new
-  pub before : (t : ℕ) (images : Images) → clock old < t → t ≤ synced → may_leave new t images → Each (pending old) images
-  pub after : (t : ℕ) (images : Images) → synced < t → t ≤ clock new → may_leave new t images → LeavesMeaning (held old) (pending old) images
+  pub from : clock old < synced
+  pub to : synced ≤ clock new + 1
+  pub ends : good → synced ≤ clock new
+  pub before : (t : ℕ) (images : Images) → clock old < t → t < synced → may_leave new t images → Each (pending old) images
+  pub after : (t : ℕ) (images : Images) → synced ≤ t → t ≤ clock new → may_leave new t images → LeavesMeaning (held old) (pending old) images
   pub kept : (t : ℕ) (images : Images) → t ≤ clock old → may_leave new t images ↔ may_leave old t images
 
 -- a header of base 0 alone, or a header and one gate

@@ -29,7 +29,7 @@ pub fn open_store<D: Disk>(alloc: Global, disk: &mut D) -> Result<Store, OpenFau
     // Where memory runs out after the file was mended, it means what it meant.
     ensures memory { D.tells → IsErrOf result OpenFault.Memory → (D.held disk.new ≡ D.held disk.old) ⊎ MeanOne (D.held disk.old chosen) (D.held disk.new chosen) }
     ensures synced { D.tells → ¬ IsErrOf result OpenFault.Disk → IsStill (D.held disk.new) (D.pending disk.new) chosen }
-    ensures time { D.tells → OpensOver D.clock D.may_leave D.held D.pending disk.old disk.new }
+    ensures time { D.tells → OpensOver D.clock D.may_leave D.held D.pending (¬ IsErrOf result OpenFault.Disk) disk.old disk.new }
     ensures still { D.tells → IsStill (D.held disk.old) (D.pending disk.old) chosen → Moments D.clock D.may_leave disk.old disk.new (λ _. LeavesMeaning (D.held disk.old) (D.pending disk.old)) }
     ensures others { D.tells → OthersStay (D.held disk.old) (D.held disk.new) (D.pending disk.old) (D.pending disk.new) }
     ensures beside { D.beside disk.new ≡ D.beside disk.old }
