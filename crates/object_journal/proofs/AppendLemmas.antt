@@ -1,5 +1,5 @@
 -- What an append leaves of the file, at each of its moments.
-use Rattle.std.proofs.Common.{◌≡◌, ◌≢◌, ◌⊎◌, inl, inr, ⊎_elim, ℕ, ◌+◌, ◌≤◌, ◌<◌, max, List, [], ◌∷◌, ◌++◌, length, get_or, take, drop, refl, sym, ap, subst, ◌∙◌, append_assoc, length-append, arith}
+use Rattle.std.proofs.Common.{◌≡◌, ◌≢◌, ◌⊎◌, inl, inr, ⊎_elim, ℕ, ◌+◌, ◌≤◌, ◌<◌, List, [], ◌∷◌, ◌++◌, length, get_or, take, drop, sym, ap, subst, ◌∙◌, append_assoc, length-append, arith}
 use Rattle.std.proofs.lemmas.List.{take_at, drop_at, take-append-drop}
 use Rattle.disk.specs.declared.file.File.{File}
 use Rattle.disk.specs.Images.{Pending, Images, IsImage, after_write, resting, patched}
@@ -8,8 +8,8 @@ use Rattle.disk.specs.ImageLaws.{front_after_write, one_byte_kinds, goes_on, wea
 use Rattle.object_journal.specs.declared.entry.Entry.{Entry}
 use Rattle.object_journal.specs.Payload.{frame_bytes}
 use Rattle.object_journal.specs.Frames.{IsFrame, closed_gate}
-use Rattle.object_journal.specs.Journal.{MayFollow, AreLawful, IsGated, last_revision, revision_after, open_gate, header_of, records_of}
-use Rattle.object_journal.specs.Standing.{chosen, OthersStay, OthersMayBe, LeavesWrite, IsGatedAt, IsReadyAt, LeavesEntries, LeavesEither}
+use Rattle.object_journal.specs.Journal.{MayFollow, IsGated, open_gate, header_of, records_of}
+use Rattle.object_journal.specs.Standing.{chosen, OthersStay, LeavesWrite, IsGatedAt, IsReadyAt, LeavesEntries, LeavesEither}
 use Rattle.object_journal.proofs.Appends.{read_again, records_more}
 use Rattle.object_journal.proofs.StopLemmas.{others_back}
 

@@ -1,5 +1,5 @@
 -- Which keys entries leave held, one entry after the other.
-use Rattle.std.proofs.Common.{◌≡◌, inl, inr, ⊎_elim, ℕ, ◌≤◌, true, false, cond, List, [], ◌∷◌, ◌++◌, length, Contains, IsTrue, sym, ap, subst, ◌∙◌, arith}
+use Rattle.std.proofs.Common.{◌≡◌, inl, inr, ⊎_elim, ℕ, ◌≤◌, true, false, cond, List, [], ◌∷◌, ◌++◌, length, Contains, sym, ap, subst, ◌∙◌, arith}
 use Rattle.std.specs.Prelude.{Result, Ok, Err, OnOk}
 use Rattle.std.specs.Set.{is_member}
 use Rattle.std.specs.BTreeSet.{BTreeSet, contains, IsOrdered}
@@ -21,9 +21,6 @@ use Rattle.object_journal.specs.KeyLaws.{by_key_total, exact_keys, same, same_is
 use Rattle.object_journal.specs.EntryLaws.{leaves_last, held_cases, held_more}
 
 -- ---- sets of keys
-
-pub holds_already : (held : BTreeSet Key) (key : Key) → IsTrue (contains by_key held key) → Holds held held key
-holds_already held key there k = ((λ h. inr h), ⊎_elim (λ e. subst (λ (x : Key). IsTrue (contains by_key held x)) e there) (λ h. h))
 
 pub holds_now : (old new : BTreeSet Key) (key : Key) → ((q : Key) → contains by_key new q ≡ cond (same key q) true (contains by_key old q)) → Holds old new key
 holds_now old new key u k =

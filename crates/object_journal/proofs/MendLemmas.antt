@@ -1,5 +1,5 @@
 -- What mending leaves of a short file.
-use Rattle.std.proofs.Common.{◌≡◌, ◌⊎◌, inl, inr, ⊎_elim, ℕ, ◌+◌, ◌≤◌, ◌<◌, List, [], ◌∷◌, ◌++◌, length, get_or, take, drop, refl, sym, ap, subst, ◌∙◌, length-append, length-drop, arith}
+use Rattle.std.proofs.Common.{◌≡◌, ◌⊎◌, inl, inr, ⊎_elim, ℕ, ◌≤◌, List, [], ◌∷◌, ◌++◌, length, get_or, take, drop, refl, sym, ap, subst, ◌∙◌, length-append, length-drop, arith}
 use Rattle.std.proofs.lemmas.List.{take-append-drop}
 use Rattle.disk.specs.declared.file.File.{File}
 use Rattle.disk.specs.Images.{Pending, Images, IsImage, after_write, resting}
@@ -7,8 +7,8 @@ use Rattle.disk.specs.Moments.{Moments}
 use Rattle.disk.specs.ImageLaws.{front_after_write, reached_most, goes_on, weaker}
 use Rattle.object_journal.specs.declared.entry.Entry.{Entry}
 use Rattle.object_journal.specs.Payload.{frame_bytes}
-use Rattle.object_journal.specs.Journal.{IsHeader, IsGated, IsJournal, IsRefusal, last_revision, header_of, records_of, open_gate}
-use Rattle.object_journal.specs.Standing.{chosen, OthersStay, OthersMayBe, LeavesWrite, IsHeaded, LeavesNone, MeansSame, LeavesMeaning}
+use Rattle.object_journal.specs.Journal.{IsHeader, IsGated, IsJournal, last_revision, header_of, records_of, open_gate}
+use Rattle.object_journal.specs.Standing.{chosen, OthersStay, LeavesWrite, IsHeaded, LeavesNone, MeansSame, LeavesMeaning}
 use Rattle.object_journal.proofs.Readings.{one_reading, long_header}
 use Rattle.object_journal.proofs.Refusals.{reads_or_breaks}
 use Rattle.object_journal.proofs.ReaderLemmas.{one_left}

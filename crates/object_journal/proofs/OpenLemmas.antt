@@ -1,18 +1,18 @@
 -- What an opening leaves, from its first sync on.
-use Rattle.std.proofs.Common.{◌≡◌, inl, inr, ⊎_elim, ℕ, ◌+◌, ◌≤◌, ◌<◌, List, [], ◌∷◌, ◌++◌, length, refl, sym, ap, subst, ◌∙◌, arith}
+use Rattle.std.proofs.Common.{◌≡◌, inl, inr, ⊎_elim, ℕ, ◌+◌, ◌≤◌, ◌<◌, List, [], ◌∷◌, ◌++◌, length, sym, ap, subst, ◌∙◌, arith}
 use Rattle.std.specs.Prelude.{false, true, Result, Ok, Err, IsErr}
 use Rattle.std.proofs.lemmas.Bool.{cases_lt}
 use Rattle.disk.specs.declared.file.File.{File}
 use Rattle.disk.specs.declared.file.File.TheVariants.{Left}
-use Rattle.disk.specs.Images.{Pending, Images, Each, IsStill, OthersWithin, Within, same_file, end_of_lengths}
+use Rattle.disk.specs.Images.{Pending, Images, Each, IsStill, OthersWithin, end_of_lengths}
 use Rattle.disk.specs.Moments.{Moments, Ticks, Unchanged}
 use Rattle.disk.specs.ImageLaws.{image_now, within_image, goes_on, weaker}
 use Rattle.object_journal.specs.declared.entry.Entry.{Entry}
 use Rattle.object_journal.specs.declared.opening.OpenFault.{OpenFault}
 use Rattle.object_journal.specs.declared.opening.OpenFault.TheVariants.{NotAStore, Disk, Memory}
 use Rattle.object_journal.specs.Frames.{closed_gate}
-use Rattle.object_journal.specs.Journal.{IsJournal, IsGated, IsRefusal, AreLawful, last_revision, header_of, records_of}
-use Rattle.object_journal.specs.Standing.{chosen, OthersMayBe, MeansSame, LeavesMeaning, OpensOver, IsMended}
+use Rattle.object_journal.specs.Journal.{IsJournal, IsGated, AreLawful, last_revision, header_of, records_of}
+use Rattle.object_journal.specs.Standing.{chosen, MeansSame, LeavesMeaning, OpensOver, IsMended}
 use Rattle.object_journal.proofs.Readings.{long_header}
 use Rattle.object_journal.proofs.AppendLemmas.{gate_inside, not_open}
 use Rattle.object_journal.proofs.MendLemmas.{no_entries}

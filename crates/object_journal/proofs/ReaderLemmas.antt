@@ -44,13 +44,6 @@ at_gate bytes front place gate is within byte =
 whole_at : (r : Reading) (es : List Entry) (bytes : List ℕ) (place gate : ℕ) → IsReadTo r es bytes place → get_or bytes place 0 ≡ gate → bytes ≡ header_of r.base ++ (records_of es ++ gate ∷ drop (place + 1) bytes)
 whole_at r es bytes place gate h byte = at_gate bytes (header_of r.base ++ records_of es) place gate h.front h.within byte ∙ append_assoc (header_of r.base) (records_of es) (gate ∷ drop (place + 1) bytes)
 
-pub starts : (r : Reading) (bytes : List ℕ) (base : ℕ) → Begins r base → HasHeader bytes base → 17 ≤ length bytes → IsReadTo r [] bytes 16
-starts r bytes base b h long = record {
-  state = b.state;
-  front = ap (λ (t : List ℕ). take 16 t) h.parts ∙ ap (λ (n : ℕ). header_of n ++ []) (sym b.base_is);
-  within = omega (arith, long);
-}
-
 pub ends : (r : Reading) (es : List Entry) (bytes : List ℕ) (place : ℕ) → IsReadTo r es bytes place → get_or bytes place 0 ≢ open_gate → IsWholeReading r es bytes place
 ends r es bytes place h closed = record {
   means = inr (inr (record {

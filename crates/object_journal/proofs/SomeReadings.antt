@@ -3,7 +3,7 @@ use Rattle.std.proofs.Common.{◌≡◌, ◌≢◌, ⊎_elim, inl, inr, ℕ, zer
 use Rattle.std.proofs.lemmas.Bool.{cases_eq, cases_lt}
 use Rattle.object_journal.specs.declared.entry.Entry.{Entry}
 use Rattle.object_journal.specs.Payload.{frame_bytes}
-use Rattle.object_journal.specs.Journal.{AreLawful, MayFollow, HasNoNext, IsGated, IsBrokenAt, IsJournal, IsRefusal, last_revision, open_gate, header_of, records_of}
+use Rattle.object_journal.specs.Journal.{AreLawful, MayFollow, HasNoNext, IsJournal, IsRefusal, last_revision, open_gate, header_of, records_of}
 use Rattle.object_journal.specs.EntryLaws.{not_empty, lawful_more}
 use Rattle.object_journal.proofs.Appends.{records_more}
 

@@ -1,9 +1,9 @@
 -- What a stop in a write to the journal's file leaves.
-use Rattle.std.proofs.Common.{◌≡◌, ℕ, ◌+◌, ◌≤◌, false, List, length, refl, subst, ◌∙◌, arith}
+use Rattle.std.proofs.Common.{ℕ, subst}
 use Rattle.disk.specs.declared.file.File.{File}
-use Rattle.disk.specs.Images.{Pending, Images, IsImage, Each, IsStill, Within, Becomes, OthersHold, OthersWithin, same_file, at_file, after_write, resting}
+use Rattle.disk.specs.Images.{Pending, Images, IsImage, Each, IsStill, Becomes, at_file, after_write}
 use Rattle.disk.specs.Moments.{Moments}
-use Rattle.disk.specs.ImageLaws.{at_file_other, within_image, within_trans, write_image, goes_on, weaker}
+use Rattle.disk.specs.ImageLaws.{at_file_other, within_image, write_image, goes_on, weaker}
 use Rattle.object_journal.specs.Standing.{chosen, OthersStay, OthersMayBe, LeavesWrite}
 
 pub leaves_write : (held : Images) (pending : File → Pending) (at n : ℕ) (i : Images) → IsStill held pending chosen → Each (at_file chosen (after_write at n) pending) i → LeavesWrite held pending at n i
@@ -25,9 +25,3 @@ put_moments clock may_leave held pending old mid new at n still becomes first se
 -- the images of other files after a call are among those before it
 pub others_back : (held_old held_mid : Images) (pending_old pending_mid : File → Pending) (i : Images) → OthersStay held_old held_mid pending_old pending_mid → OthersMayBe pending_mid i → OthersMayBe pending_old i
 others_back held_old held_mid pending_old pending_mid i s h f other = within_image _ _ (i f) (s.pending f other) (h f other)
-
-pub others_on : (held_old held_mid held_new : Images) (pending_old pending_mid pending_new : File → Pending) → OthersStay held_old held_mid pending_old pending_mid → OthersStay held_mid held_new pending_mid pending_new → OthersStay held_old held_new pending_old pending_new
-others_on held_old held_mid held_new pending_old pending_mid pending_new a b = record {
-  held = λ f other. b.held f other ∙ a.held f other;
-  pending = λ f other. within_trans _ _ _ (b.pending f other) (a.pending f other);
-}

@@ -3,7 +3,6 @@ use Rattle.std.specs.Prelude.{◌≡◌, ◌≢◌, ◌⊎◌, ◌↔◌, ℕ, �
 use Rattle.disk.specs.declared.file.File.{File}
 use Rattle.disk.specs.declared.file.File.TheVariants.{Left}
 use Rattle.disk.specs.Images.{Pending, Images, IsImage, Each, IsStill, OthersHold, OthersWithin, same_file, end_of_lengths, after_write, patched, resting}
-use Rattle.disk.specs.Moments.{Moments}
 use Rattle.object_journal.specs.declared.entry.Entry.{Entry}
 use Rattle.object_journal.specs.declared.appending.Journal.{Journal}
 use Rattle.object_journal.specs.Payload.{frame_bytes}

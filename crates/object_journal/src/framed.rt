@@ -167,7 +167,8 @@ fn frame_of(alloc: Global, entry: &Entry, size: u32) -> Result<Vec<u8>, Memory>
     Ok(bytes)
 }
 
-/// The record of the entry. `TooLong` comes exactly where its payload has more than 1,048,576 bytes.
+/// The record of the entry. Each text of the key has at most 65,535 bytes. `TooLong` comes exactly where its payload has
+/// more than 1,048,576 bytes.
 pub fn frame(alloc: Global, entry: &Entry) -> Result<Framed, FrameFault>
     requires { HasShortTexts entry.now.key }
     ensures ok { IfOk result (λ f. f ≡ entry.now) }

@@ -211,9 +211,6 @@ pub removed_from_gap : (items : List Item) (e : Entry) (i : ℕ) → AreInKeyOrd
 removed_from_gap items e i o gap removal =
     subst (IsChanged items e) (take-append-drop i items) (removal_changes items (take i items) (drop i items) e removal (gap_around items e.key i o gap) (gap_others items e.key i o gap))
 
-pub key_there : (items : List Item) (key : Key) (i : ℕ) (r : Item) → IsPlaceOf items key i → r ≡ get_or items i r → Contains items r × (r.key ≡ key)
-key_there items key i r place is = ((i, place.within, sym is), ap (λ (x : Item). x.key) is ∙ place.there r)
-
 pub key_not_there : (items : List Item) (key : Key) (i : ℕ) → AreInKeyOrder items → IsGapOf items key i → (r : Item) → Contains items r → r.key ≢ key
 key_not_there items key i o gap r there =
     around_apart (take i items) (drop i items) key r (gap_around items key i o gap) (subst (λ (l : List Item). Contains l r) (sym (take-append-drop i items)) there)

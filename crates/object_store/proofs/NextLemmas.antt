@@ -54,14 +54,6 @@ holds_or_not (x ∷ xs) key = ⊎_elim
     (holds_or_not xs key))
     (same_or_not x.key key)
 
-pub one_put : (items : List Item) (revision : ℕ) (key : Key) (body : List ℕ) (e f : Entry) → IsPutOf items revision key body e → IsPutOf items revision key body f → e ≡ f
-one_put items revision key body e f p q =
-    let created : p.created ≡ q.created = ⊎_elim
-    (λ h. p.keeps.held h.0 h.1 h.2 ∙ sym (q.keeps.held h.0 h.1 h.2))
-    (λ none. p.keeps.fresh none ∙ sym (q.keeps.fresh none))
-    (holds_or_not items key) in
-    λ i. record { key = (p.key_is ∙ sym q.key_is) i; revision = (p.next ∙ sym q.next) i; change = (p.put ∙ (λ j. Put (created j) body) ∙ sym q.put) i }
-
 -- ---- entries that leave them
 
 pub held_by_entries : (entries : List Entry) (items : List Item) (key : Key) → AreRecords entries items → HoldsKey items key → IsHeld entries key

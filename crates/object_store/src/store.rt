@@ -101,7 +101,7 @@ impl Store {
         item_of(self.items.as_slice(), key)
     }
 
-    /// The revision of the last entry, or the base of a journal without any.
+    /// The greatest of the base and the revisions of its entries.
     pub fn revision(&self) -> u64
         ensures { result ≡ self.now.journal.revision }
     {
@@ -135,8 +135,9 @@ impl Store {
         Ok(ready)
     }
 
-    /// Makes a put of the key ready. `Full` comes exactly where the key isn't held and 4,096 are, or where the revision is
-    /// the last one; else `TooLong` exactly where the entry has no frame. All memory that the commit needs is taken.
+    /// Makes a put of the key ready. The store hasn't ended. Each text of the key has at most 65,535 bytes. `Full` comes
+    /// exactly where the key isn't held and 4,096 are, or where the revision is the last one; else `TooLong` exactly where
+    /// the entry has no frame. All memory that the commit needs is taken.
     pub fn ready_put(&mut self, alloc: Global, key: Key, body: Blob) -> Result<Ready, ReadyFault>
         requires going { self.old.journal.ended ≡ false }
         requires short { HasShortTexts key }
@@ -157,8 +158,8 @@ impl Store {
         self.make_ready(alloc, entry)
     }
 
-    /// Makes a removal of the key, which is held, ready. `Full` comes exactly where the revision is the last one. All
-    /// memory that the commit needs is taken.
+    /// Makes a removal of the key, which is held, ready. The store hasn't ended. `Full` comes exactly where the revision is
+    /// the last one. All memory that the commit needs is taken.
     pub fn ready_removal(&mut self, alloc: Global, key: Key) -> Result<Ready, ReadyFault>
         requires going { self.old.journal.ended ≡ false }
         requires held { HoldsKey self.old.items key }

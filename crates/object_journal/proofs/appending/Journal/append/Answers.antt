@@ -1,4 +1,4 @@
-use Rattle.std.proofs.Common.{[], ◌∷◌, refl, sym, ap, ◌∙◌, max, length, ◌+◌, length-append, arith}
+use Rattle.std.proofs.Common.{[], ◌∷◌, refl, sym, ap, ◌∙◌, max, length, length-append, arith}
 use Rattle.object_journal.specs.Standing.{chosen, IsGatedAt}
 use Rattle.object_journal.specs.Payload.{frame_bytes}
 use Rattle.object_journal.specs.Frames.{closed_gate}
