@@ -1,8 +1,8 @@
 -- A text has one answer.
-use Rattle.std.proofs.Common.{◌≡◌, ◌≢◌, ℕ, ◌≤◌, Bool, true, List, [], ◌∷◌, ◌++◌, length, get_or, drop, codes, Option, Some, None, refl, sym, ap, subst, ◌∙◌, arith}
+use Rattle.std.proofs.Common.{◌≡◌, ◌≢◌, ℕ, ◌≤◌, Bool, true, List, [], ◌∷◌, ◌++◌, length, get_or, drop, codes, Option, Some, None, option_and_then, refl, sym, ap, subst, ◌∙◌, arith}
 use Rattle.std.specs.List.{AllByRecursion}
 use Rattle.std.proofs.lemmas.Fmt.{decimal_injective}
-use Rattle.toml.specs.Data.{Members}
+use Rattle.toml.specs.Data.{Data, Members, as_str, as_bool}
 use Rattle.minor_version.specs.Release.{release_text}
 use Rattle.fields.specs.declared.field.Field.{Field}
 use Rattle.fields.specs.declared.field.Form.{Form}
@@ -32,8 +32,10 @@ use Rattle.history_reader.specs.Meaning.{IsGateChange, IsGateEntry, IsApiChange,
 some_injective : {A : Type 0} (o : Option A) (x y : A) → o ≡ Some x → o ≡ Some y → x ≡ y
 some_injective o x y a b = cc
 
-some_none : {A B : Type 0} (o : Option A) (x : A) → o ≡ Some x → o ≡ None → B
-some_none o x a b = cc
+-- what isn't there holds nothing
+missing : {A B : Type 0} (f : Data → Option A) (o : Option Data) (x : A) → option_and_then f o ≡ Some x → o ≡ None → B
+missing f None x a b = cc
+missing f (Some d) x a b = cc
 
 one_release : (name : List ℕ) (ms : Members) (k l : ℕ) → IsReleaseAt name ms k → IsReleaseAt name ms l → k ≡ l
 one_release name ms k l a b =
@@ -43,8 +45,8 @@ one_release name ms k l a b =
 
 one_optional : (name : List ℕ) (ms : Members) (r s : Option ℕ) → HoldsRelease name ms r → HoldsRelease name ms s → r ≡ s
 one_optional name ms None None a b = refl
-one_optional name ms None (Some l) a b = some_none _ (release_text l) b.text a
-one_optional name ms (Some k) None a b = some_none _ (release_text k) a.text b
+one_optional name ms None (Some l) a b = missing as_str _ (release_text l) b.text a
+one_optional name ms (Some k) None a b = missing as_str _ (release_text k) a.text b
 one_optional name ms (Some k) (Some l) a b = ap Some (one_release name ms k l a b)
 
 apart : {A : Type 0} (xs ys : List ℕ) → get_or xs 0 0 ≢ get_or ys 0 0 → xs ≡ ys → A
@@ -77,8 +79,8 @@ same_spec s t d e l k a b c = cc
 one_gate_change : (ms : Members) (x y : GateChange) → IsGateChange ms x → IsGateChange ms y → x ≡ y
 one_gate_change ms (Spec s d l) (Spec t e k) a b =
     same_spec s t d e l k (one_stage s t (some_injective _ (stage_word s) (stage_word t) a.1 b.1)) (some_injective _ d e a.2 b.2) (sym a.3 ∙ b.3)
-one_gate_change ms (Spec s d l) Gone a b = some_none _ true b a.0
-one_gate_change ms Gone (Spec t e k) a b = some_none _ true a b.0
+one_gate_change ms (Spec s d l) Gone a b = missing as_bool _ true b a.0
+one_gate_change ms Gone (Spec t e k) a b = missing as_bool _ true a b.0
 one_gate_change ms Gone Gone a b = refl
 
 one_gate : (ms : Members) (x y : GateEntry) → IsGateEntry ms x → IsGateEntry ms y → x ≡ y

@@ -27,14 +27,14 @@ use Rattle.history_reader.specs.Tests.{Passes, IsFirstFault, document_tests}
 abbrev pub longest_document : ℕ
 longest_document = 1048576
 
--- the member holds the text of the release, or there is neither
+-- the member holds the text of the release; without a release it isn't there
 abbrev pub HoldsRelease : List ℕ → Members → Option ℕ → Type 0
-HoldsRelease name ms release = MatchOption release (text_at name ms ≡ None) (IsReleaseAt name ms)
+HoldsRelease name ms release = MatchOption release (get_member name ms ≡ None) (IsReleaseAt name ms)
 
 -- the table tells this change of a gate; `locked` that is missing is false
 abbrev pub IsGateChange : Members → GateChange → Type 0
 IsGateChange ms (Spec stage default locked) =
-    (flag_at (codes "removed") ms ≡ None)
+    (get_member (codes "removed") ms ≡ None)
     × (text_at (codes "stage") ms ≡ Some (stage_word stage))
     × (flag_at (codes "default") ms ≡ Some default)
     × (unwrap_or (flag_at (codes "locked") ms) false ≡ locked)

@@ -7,7 +7,7 @@ ghost use Rattle.history_reader.specs.Meaning.{IsGateChange, IsGateEntry};
 
 use crate::entries::Entry;
 use crate::member::Member;
-use crate::tree::{flag_member, flag_of, release_of, stage_of, text_of};
+use crate::tree::{flag_member, flag_of, release_of, stage_of, text_of, value_of};
 use basis::Memory;
 use gate_spec::{GateChange, GateEntry};
 use minor_version::Text;
@@ -19,7 +19,7 @@ fn gate_change(table: &Table) -> GateChange
     requires { MeetsRows (gate_rows (table_view table.now)) (table_view table.now) }
     ensures { IsGateChange (table_view table.now) result }
 {
-    match flag_member(table, Member::Removed) {
+    match value_of(table, Member::Removed) {
         Some(_) => GateChange::Gone,
         None => GateChange::Spec {
             stage: stage_of(table, Member::Stage),

@@ -12,12 +12,12 @@ ghost use Rattle.history_reader.specs.Meaning.{HoldsRelease, IsHistory, MeansTre
 use crate::entries::entries_of;
 use crate::fault::document_fault;
 use crate::member::Member;
-use crate::tree::{items_of_array, text_member};
+use crate::tree::{items_of_array, release_of, value_of};
 use basis::Memory;
 use fields::{Field, Spell};
 use gate_spec::GateEntry;
 use lifecycle::ApiEntry;
-use minor_version::{Minor, Text, parse_plain};
+use minor_version::{Minor, Text};
 use schemas::{Array, History};
 use std::alloc::Global;
 use std::error::Error;
@@ -70,8 +70,8 @@ fn optional_release(table: &Table, member: Member) -> Option<Minor>
     requires { IfSome (get_member (member_name member) (table_view table.now)) (HasShape TheShape.Release) }
     ensures { HoldsRelease (member_name member) (table_view table.now) result }
 {
-    match text_member(table, member) {
-        Some(text) => parse_plain(text.as_bytes()),
+    match value_of(table, member) {
+        Some(_) => Some(release_of(table, member)),
         None => None,
     }
 }
