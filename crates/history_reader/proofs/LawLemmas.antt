@@ -27,7 +27,7 @@ use Rattle.history_reader.specs.Tree.{IsReleaseAt}
 use Rattle.history_reader.specs.Words.{type_word, form_word}
 use Rattle.std.specs.Prelude.{MatchOption}
 use Rattle.history_reader.specs.Tests.{Place, Test, Passes, IsFirstFault, document_tests}
-use Rattle.history_reader.specs.Meaning.{IsGateChange, IsGateEntry, IsApiChange, IsApiEntry, IsFieldEntry, IsSpellEntry, AreEntries, HoldsRelease, IsHistory, ReadsAs, MeansTree, IsTreeFault, MeansHistory, IsRefused}
+use Rattle.history_reader.specs.Meaning.{IsGateChange, IsGateEntry, IsApiChange, IsApiEntry, IsFieldEntry, IsSpellEntry, AreEntries, HoldsRelease, IsHistory, ReadsAs, MeansTree, MeansHistory, IsRefused}
 
 some_injective : {A : Type 0} (o : Option A) (x y : A) → o ≡ Some x → o ≡ Some y → x ≡ y
 some_injective o x y a b = cc
@@ -236,9 +236,11 @@ one_place tests p q f g =
     let same : f.test ≡ g.test = one_split f.before g.before f.test g.test f.after g.after (sym f.split ∙ g.split) f.passed g.passed f.failed g.failed in
     f.named ∙ ap (λ (t : Test). t.place) same ∙ sym g.named
 
-same_tree_fault : (ms : Members) (a b : Array) (i j : ℕ) (n m : List ℕ) → IsTreeFault ms (BadEntry a i n) → IsTreeFault ms (BadEntry b j m) → BadEntry a i n ≡ BadEntry b j m
-same_tree_fault ms a b i j n m f g =
-    ap (λ (p : Place). BadEntry p.array p.index p.member) (one_place (document_tests ms) (record { array = a; index = i; member = n }) (record { array = b; index = j; member = m }) f g)
+abbrev place : Array → ℕ → List ℕ → Place
+place a i n = record { array = a; index = i; member = n }
+
+one_entry : (ms : Members) (a b : Array) (i j : ℕ) (n m : List ℕ) → IsFirstFault (document_tests ms) (place a i n) → IsFirstFault (document_tests ms) (place b j m) → BadEntry a i n ≡ BadEntry b j m
+one_entry ms a b i j n m f g = ap (λ (p : Place). BadEntry p.array p.index p.member) (one_place (document_tests ms) (place a i n) (place b j m) f g)
 
 pub means_or_is_refused : (text : List ℕ) (h : Dated) (fault : HistoryFault) → MeansHistory text h → IsRefused text fault → fault ≡ Memory
 means_or_is_refused text h Memory m r = refl
@@ -246,7 +248,7 @@ means_or_is_refused text h TooLong m r = let short : length text ≤ 1048576 = m
 means_or_is_refused text h NotToml m r = absurd (r.1 m.tree m.reads)
 means_or_is_refused text h (BadEntry a i n) m r =
     let same : r.tree ≡ m.tree = one_tree text r.tree m.tree r.reads m.reads in
-    let P : Members → Type 0 = λ ms. IsTreeFault ms (BadEntry a i n) in
+    let P : Members → Type 0 = λ ms. IsFirstFault (document_tests ms) (place a i n) in
     absurd (no_fault (document_tests m.tree) _ m.holds.passed (subst P same r.holds))
 
 pub one_fault : (text : List ℕ) (e f : HistoryFault) → e ≢ Memory → f ≢ Memory → IsRefused text e → IsRefused text f → e ≡ f
@@ -264,5 +266,5 @@ one_fault text (BadEntry c j l) TooLong m n a b = let short : length text ≤ 10
 one_fault text (BadEntry c j l) NotToml m n a b = absurd (b.1 a.tree a.reads)
 one_fault text (BadEntry c j l) (BadEntry d k o) m n a b =
     let same : b.tree ≡ a.tree = one_tree text b.tree a.tree b.reads a.reads in
-    let P : Members → Type 0 = λ ms. IsTreeFault ms (BadEntry d k o) in
-    same_tree_fault a.tree c d j k l o a.holds (subst P same b.holds)
+    let P : Members → Type 0 = λ ms. IsFirstFault (document_tests ms) (place d k o) in
+    one_entry a.tree c d j k l o a.holds (subst P same b.holds)

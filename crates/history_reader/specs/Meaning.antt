@@ -119,13 +119,6 @@ pub record MeansTree (ms : Members) (h : Dated) : Type 0 where
   pub passed : AllByRecursion Passes (document_tests ms)
   pub history : IsHistory ms h
 
--- why a tree is no history: its first fault; want of memory is free
-abbrev pub IsTreeFault : Members → HistoryFault → Type 0
-IsTreeFault ms Memory = Unit {0}
-IsTreeFault ms TooLong = ⊥
-IsTreeFault ms NotToml = ⊥
-IsTreeFault ms (BadEntry array index name) = IsFirstFault (document_tests ms) (record { array = array; index = index; member = name })
-
 -- the bytes are short enough, and read as a tree of which P holds
 pub record IsDocument (text : List ℕ) (P : Members → Type 0) : Type 0 where
   pub short : length text ≤ longest_document
@@ -142,4 +135,4 @@ abbrev pub IsRefused : List ℕ → HistoryFault → Type 0
 IsRefused text Memory = Unit {0}
 IsRefused text TooLong = longest_document < length text
 IsRefused text NotToml = (length text ≤ longest_document) × ((ms : Members) → ¬ ReadsAs text ms)
-IsRefused text (BadEntry array index name) = IsDocument text (λ ms. IsTreeFault ms (BadEntry array index name))
+IsRefused text (BadEntry array index name) = IsDocument text (λ ms. IsFirstFault (document_tests ms) (record { array = array; index = index; member = name }))

@@ -1,5 +1,5 @@
 //! A history from the bytes of a document.
-ghost use Rattle.std.specs.Prelude.{IfOk, IfErr, IfSome};
+ghost use Rattle.std.specs.Prelude.{◌≡◌, ◌⊎◌, IfOk, IfErr, IfSome};
 ghost use Rattle.std.specs.List.{AllByRecursion};
 ghost use Rattle.toml.specs.View.{table_view};
 ghost use Rattle.toml.specs.Data.{get_member};
@@ -7,10 +7,11 @@ ghost use Rattle.history_reader.specs.declared.demand.Shape.{Shape as TheShape};
 ghost use Rattle.history_reader.specs.Names.{member_name};
 ghost use Rattle.history_reader.specs.Demands.{HasShape};
 ghost use Rattle.history_reader.specs.Tests.{Passes, document_tests};
-ghost use Rattle.history_reader.specs.Meaning.{HoldsRelease, IsHistory, MeansTree, IsTreeFault, MeansHistory, IsRefused};
+ghost use Rattle.history_reader.specs.Meaning.{HoldsRelease, IsHistory, MeansHistory, IsRefused};
+ghost use Rattle.history_reader.specs.declared.read.HistoryFault.TheVariants.{Memory as NoMemory, BadEntry};
 
 use crate::entries::entries_of;
-use crate::fault::document_fault;
+use crate::fault::{Fault, document_fault};
 use crate::member::Member;
 use crate::tree::{items_of_array, release_of, value_of};
 use basis::Memory;
@@ -97,24 +98,17 @@ fn history_of(alloc: Global, table: &Table) -> Result<History, Memory>
     })
 }
 
-/// The history that a document is, or its first fault.
-fn read_table(alloc: Global, table: &Table) -> Result<History, HistoryFault>
-    ensures ok { IfOk result (MeansTree (table_view table.now)) }
-    ensures refused { IfErr result (IsTreeFault (table_view table.now)) }
+/// The fault as it is told, or want of memory.
+fn told(alloc: Global, fault: &Fault<'_>) -> HistoryFault
+    ensures { (result ≡ NoMemory) ⊎ (result ≡ BadEntry fault.now.array fault.now.index fault.now.member.now) }
 {
-    if let Some(fault) = document_fault(table) {
-        return match Text::from_str(alloc, fault.member) {
-            Ok(member) => Err(HistoryFault::BadEntry {
-                array: fault.array,
-                index: fault.index,
-                member,
-            }),
-            Err(_) => Err(HistoryFault::Memory),
-        };
-    }
-    match history_of(alloc, table) {
-        Ok(history) => Ok(history),
-        Err(_) => Err(HistoryFault::Memory),
+    match Text::from_str(alloc, fault.member) {
+        Ok(member) => HistoryFault::BadEntry {
+            array: fault.array,
+            index: fault.index,
+            member,
+        },
+        Err(_) => HistoryFault::Memory,
     }
 }
 
@@ -127,7 +121,13 @@ pub fn read_history(alloc: Global, text: &[u8]) -> Result<History, HistoryFault>
         return Err(HistoryFault::TooLong);
     }
     match toml::table_from_slice(alloc, text) {
-        Ok(table) => read_table(alloc, &table),
+        Ok(table) => match document_fault(&table) {
+            Some(fault) => Err(told(alloc, &fault)),
+            None => match history_of(alloc, &table) {
+                Ok(history) => Ok(history),
+                Err(_) => Err(HistoryFault::Memory),
+            },
+        },
         Err(error) => {
             if error.is_memory() {
                 Err(HistoryFault::Memory)
