@@ -1,12 +1,12 @@
 -- The entries of an array, one after another.
 use Rattle.std.proofs.Common.{◌≡◌, ℕ, zero, suc, ◌+◌, ◌<◌, List, [], ◌∷◌, ◌++◌, length, take, map, get_or, refl, sym, ap, subst, ◌∙◌, arith}
-use Rattle.std.specs.List.{AllByRecursion}
+use Rattle.std.specs.List.{AllByRecursion, AllZip}
+use Rattle.std.proofs.lemmas.Slice.Zip.{all_zipped_more}
 use Rattle.std.proofs.lemmas.List.{take_more, map-append}
 use Rattle.toml.specs.Data.{Members}
 use Rattle.toml.specs.View.{view, items_view}
 use Rattle.toml.specs.declared.value.Value.{Value}
 use Rattle.history_reader.specs.Tree.{members_in, tables_in}
-use Rattle.history_reader.specs.Meaning.{AreEntries}
 
 abbrev pub table_of_value : Value → Members
 table_of_value v = members_in (view v)
@@ -19,22 +19,12 @@ tables_in-more : (vs : List Value) (i : ℕ) (d : Value) → i < length vs → t
 tables_in-more vs i d h =
     rw (tables_in-view (take (i + 1) vs), tables_in-view (take i vs), take_more vs i d h) (map-append table_of_value (take i vs) (get_or vs i d ∷ []))
 
-AreEntries-last : {X : Type 0} (P : Members → X → Type 0) (ts : List Members) (xs : List X) (t : Members) (x : X) → AreEntries P ts xs → P t x → AreEntries P (ts ++ t ∷ []) (xs ++ x ∷ [])
-AreEntries-last P [] [] t x h e = (e, tt)
-AreEntries-last P [] (y ∷ ys) t x h e = absurd h
-AreEntries-last P (s ∷ ts) [] t x h e = absurd h
-AreEntries-last P (s ∷ ts) (y ∷ ys) t x h e = (h.0, AreEntries-last P ts ys t x h.1 e)
-
 -- one more entry
 pub entries_more : {X : Type 0} (P : Members → X → Type 0) (vs : List Value) (i : ℕ) (v : Value) (t : Members) (xs : List X) (x : X) → i < length vs → v ≡ get_or vs i v → t ≡ table_of_value v
-    → AreEntries P (tables_in (items_view (take i vs))) xs → P t x → AreEntries P (tables_in (items_view (take (i + 1) vs))) (xs ++ x ∷ [])
+    → AllZip P (tables_in (items_view (take i vs))) xs → P t x → AllZip P (tables_in (items_view (take (i + 1) vs))) (xs ++ x ∷ [])
 entries_more P vs i v t xs x h is same a e =
     let Q : Members → Type 0 = λ s. P s x in
-    rw (tables_in-more vs i v h) (AreEntries-last P _ xs _ x a (subst Q (same ∙ ap table_of_value is) e))
-
-pub all-last : {X : Type 0} (P : X → Type 0) (xs : List X) (x : X) → AllByRecursion P xs → P x → AllByRecursion P (xs ++ x ∷ [])
-all-last P [] x h e = (e, tt)
-all-last P (y ∷ ys) x h e = (h.0, all-last P ys x h.1 e)
+    rw (tables_in-more vs i v h) (all_zipped_more P _ xs _ x a (subst Q (same ∙ ap table_of_value is) e))
 
 holds_at : (Q : Members → Type 0) (vs : List Value) (i : ℕ) (d : Value) → i < length vs → AllByRecursion Q (tables_in (items_view vs)) → Q (table_of_value (get_or vs i d))
 holds_at Q [] i d h a = absurd (omega arith)

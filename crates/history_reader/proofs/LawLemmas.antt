@@ -1,6 +1,6 @@
 -- A text has one answer.
 use Rattle.std.proofs.Common.{◌≡◌, ◌≢◌, ℕ, ◌≤◌, Bool, true, List, [], ◌∷◌, ◌++◌, length, get_or, drop, codes, Option, Some, None, option_and_then, refl, sym, ap, subst, ◌∙◌, arith}
-use Rattle.std.specs.List.{AllByRecursion}
+use Rattle.std.specs.List.{AllByRecursion, AllZip}
 use Rattle.std.proofs.lemmas.Fmt.{decimal_injective}
 use Rattle.toml.specs.Data.{Data, Members, as_str, as_bool}
 use Rattle.minor_version.specs.Release.{release_text}
@@ -27,7 +27,7 @@ use Rattle.history_reader.specs.Tree.{IsReleaseAt}
 use Rattle.history_reader.specs.Words.{type_word, form_word}
 use Rattle.std.specs.Prelude.{MatchOption}
 use Rattle.history_reader.specs.Tests.{Place, Test, Passes, IsFirstFault, document_tests}
-use Rattle.history_reader.specs.Meaning.{IsGateChange, IsGateEntry, IsApiChange, IsApiEntry, IsFieldEntry, IsSpellEntry, AreEntries, HoldsRelease, IsHistory, ReadsAs, MeansTree, MeansHistory, IsRefused}
+use Rattle.history_reader.specs.Meaning.{IsGateChange, IsGateEntry, IsApiChange, IsApiEntry, IsFieldEntry, IsSpellEntry, HoldsRelease, IsHistory, ReadsAs, MeansTree, MeansHistory, IsRefused}
 
 some_injective : {A : Type 0} (o : Option A) (x y : A) → o ≡ Some x → o ≡ Some y → x ≡ y
 some_injective o x y a b = cc
@@ -185,7 +185,7 @@ one_spell ms x y a b =
     let default : x.default ≡ y.default = sym a.default ∙ b.default in
     λ i. record { group = group i; resource = resource i; version = version i; field = field i; since = since i; path = path i; form = form i; default = default i }
 
-one_list : {X : Type 0} (P : Members → X → Type 0) → ((t : Members) (x y : X) → P t x → P t y → x ≡ y) → (ts : List Members) (xs ys : List X) → AreEntries P ts xs → AreEntries P ts ys → xs ≡ ys
+one_list : {X : Type 0} (P : Members → X → Type 0) → ((t : Members) (x y : X) → P t x → P t y → x ≡ y) → (ts : List Members) (xs ys : List X) → AllZip P ts xs → AllZip P ts ys → xs ≡ ys
 one_list P one [] [] [] a b = refl
 one_list P one [] [] (y ∷ ys) a b = absurd b
 one_list P one [] (x ∷ xs) ys a b = absurd a

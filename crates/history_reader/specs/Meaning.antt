@@ -1,7 +1,7 @@
 -- What a history document means.
-use Rattle.std.specs.Prelude.{ℕ, ◌≡◌, ◌<◌, ◌≤◌, true, false, List, [], ◌∷◌, length, Some, None, MatchOption, unwrap_or, option_and_then, option_map, codes}
+use Rattle.std.specs.Prelude.{ℕ, ◌≡◌, ◌<◌, ◌≤◌, true, false, List, length, Some, None, MatchOption, unwrap_or, option_and_then, option_map, codes}
 use Rattle.std.specs.declared.option.Option.{Option}
-use Rattle.std.specs.List.{AllByRecursion}
+use Rattle.std.specs.List.{AllByRecursion, AllZip}
 use Rattle.std.specs.Str.{IsUtf8}
 use Rattle.toml.specs.Data.{Members, get_member}
 use Rattle.toml.specs.Parse.{parse_document}
@@ -94,20 +94,14 @@ pub record IsSpellEntry (ms : Members) (x : Spell) : Type 0 where
   pub form : HoldsForm (codes "form") ms x.form
   pub default : option_and_then scalar_in (get_member (codes "default") ms) ≡ x.default
 
--- the tables are these entries, one for one, in order
-abbrev pub AreEntries : {X : Type 0} → (Members → X → Type 0) → List Members → List X → Type 0
-AreEntries IsEntry [] [] = Unit {0}
-AreEntries IsEntry (t ∷ ts) (x ∷ xs) = IsEntry t x × AreEntries IsEntry ts xs
-AreEntries IsEntry _ _ = ⊥
-
--- the tree is this history
+-- the tree is this history: the tables of an array are its entries, one for one, in order
 pub record IsHistory (ms : Members) (h : Dated) : Type 0 where
   pub first : HoldsRelease (codes "first") ms h.first
   pub last : HoldsRelease (codes "last") ms h.last
-  pub gates : AreEntries IsGateEntry (tables_at (codes "gate") ms) h.gates
-  pub apis : AreEntries IsApiEntry (tables_at (codes "api") ms) h.apis
-  pub fields : AreEntries IsFieldEntry (tables_at (codes "field") ms) h.fields
-  pub spells : AreEntries IsSpellEntry (tables_at (codes "spell") ms) h.spells
+  pub gates : AllZip IsGateEntry (tables_at (codes "gate") ms) h.gates
+  pub apis : AllZip IsApiEntry (tables_at (codes "api") ms) h.apis
+  pub fields : AllZip IsFieldEntry (tables_at (codes "field") ms) h.fields
+  pub spells : AllZip IsSpellEntry (tables_at (codes "spell") ms) h.spells
 
 -- the bytes are a text that TOML reads as this tree
 pub record ReadsAs (text : List ℕ) (ms : Members) : Type 0 where

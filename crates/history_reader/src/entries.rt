@@ -1,13 +1,12 @@
 //! The entries of an array in which there is no fault.
 ghost use Rattle.std.specs.Prelude.{List, IfOk};
-ghost use Rattle.std.specs.List.{AllByRecursion};
+ghost use Rattle.std.specs.List.{AllByRecursion, AllZip};
 ghost use Rattle.toml.specs.Data.{Members};
 ghost use Rattle.toml.specs.View.{table_view, items_view};
 ghost use Rattle.history_reader.specs.Tree.{tables_in};
 ghost use Rattle.history_reader.specs.Demands.{AreTables};
 ghost use Rattle.history_reader.specs.Rows.{Row as TheRow};
 ghost use Rattle.history_reader.specs.Tests.{MeetsRows};
-ghost use Rattle.history_reader.specs.Meaning.{AreEntries};
 
 use crate::tree::table_of;
 use basis::{Memory, Sequence};
@@ -33,7 +32,7 @@ pub trait Entry: Drop {
 pub fn entries_of<E: Entry>(alloc: Global, items: &[Value]) -> Result<Sequence<E>, Memory>
     requires tables { AreTables (items_view items.now) }
     requires met { AllByRecursion (λ t. MeetsRows (E.rows t) t) (tables_in (items_view items.now)) }
-    ensures ok { IfOk result (AreEntries E.is_entry (tables_in (items_view items.now))) }
+    ensures ok { IfOk result (AllZip E.is_entry (tables_in (items_view items.now))) }
     ensures shaped { IfOk result (AllByRecursion E.is_shaped) }
 {
     let mut entries = Sequence::new();

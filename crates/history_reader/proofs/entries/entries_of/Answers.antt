@@ -1,6 +1,7 @@
+use Rattle.basis.proofs.ElementLemmas.{AllByRecursion-push}
 use Rattle.history_reader.specs.Tests.{MeetsRows}
 use Rattle.history_reader.proofs.TableLemmas.{is_table}
-use Rattle.history_reader.proofs.EntryLemmas.{entries_more, all-last, table_holds}
+use Rattle.history_reader.proofs.EntryLemmas.{entries_more, table_holds}
 use Rattle.history_reader.proofs.entries.entries_of.Goals as goal
 
 pub table_of-requires : goal.table_of-requires
@@ -13,5 +14,5 @@ from_table-requires g c =
 pub loop-value-preserved : goal.loop-value-preserved
 loop-value-preserved g c = record {
   read = rw c.in-Ok-push.ensures.ok (entries_more g.E.Entry.is_entry c.args.items.now c.loop-value.value-index c.value-item.result _ _ _ c.loop-value-test.true c.value-item.is c.table_of.ensures c.loop-value.invariant.read c.in-Ok.ensures.ok);
-  shaped = rw c.in-Ok-push.ensures.ok (all-last g.E.Entry.is_shaped _ _ c.loop-value.invariant.shaped c.in-Ok.ensures.shaped);
+  shaped = rw c.in-Ok-push.ensures.ok (AllByRecursion-push g.E.Entry.is_shaped _ _ c.loop-value.invariant.shaped c.in-Ok.ensures.shaped);
 }
