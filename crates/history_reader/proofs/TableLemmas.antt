@@ -1,6 +1,6 @@
 -- The tests of tables and of arrays of tables.
 use Rattle.std.proofs.Common.{◌≡◌, ℕ, zero, suc, ◌+◌, ◌<◌, Bool, true, false, not, cond, List, [], ◌∷◌, length, take, map, get_or, Option, Some, None, IsSome, IfSome, IsSomeAnd, option_map, option_and_then, unwrap_or, String, Global, string_bytes, refl, sym, ap, subst, ◌∙◌, add-one, arith}
-use Rattle.std.specs.List.{AllByRecursion, find}
+use Rattle.std.specs.List.{AllByRecursion, find, flat_map, enumerate_from}
 use Rattle.std.specs.Map.{keys_of}
 use Rattle.toml.specs.Data.{Data, Items, no_items, Members, get_member, as_array, as_table}
 use Rattle.toml.specs.View.{view, items_view, members_view}
@@ -11,7 +11,7 @@ use Rattle.history_reader.specs.declared.demand.Shape.{Shape}
 use Rattle.history_reader.specs.Tree.{members_in, tables_in, items_at}
 use Rattle.history_reader.specs.Demands.{AreTables, HasShape}
 use Rattle.history_reader.specs.Rows.{Row, rows_of, entry_arrays}
-use Rattle.history_reader.specs.Tests.{Place, Passes, IsFirstFault, MeetsRows, row_test, unknown_test, unknown_members, is_named, tests_by, table_tests, entry_tests, array_tests, document_tests}
+use Rattle.history_reader.specs.Tests.{Place, Test, Passes, IsFirstFault, MeetsRows, row_test, unknown_test, unknown_members, is_named, tests_by, table_tests, entry_tests, array_tests, document_tests}
 use Rattle.history_reader.proofs.TestLemmas.{joined_passed, passed-append, passed-front, passed-back, fault-front, fault-back, fault-here}
 
 abbrev pub Entry : Type 0
@@ -58,11 +58,15 @@ none_unknown array index rows [] e = tt
 none_unknown array index rows (x ∷ es) e =
     none_step array index (not (is_named rows (string_bytes x.0))) x.0 (string_bytes x.0, view x.1) _ _ e (none_unknown array index rows es)
 
+-- of entries in order, numbered from here
+abbrev tests_from : Array → ℕ → List Members → List Test
+tests_from array n ts = flat_map (λ entry. table_tests array entry.0 entry.1) (enumerate_from n ts)
+
 -- entries in order, of which those before the i-th pass their tests
 pub entries_fault : (array : Array) (n : ℕ) (vs : List Value) (i j : ℕ) (d : Value) (p : Place) → i < length vs → j ≡ n + i
-    → AllByRecursion Passes (entry_tests array n (tables_in (items_view (take i vs))))
+    → AllByRecursion Passes (tests_from array n (tables_in (items_view (take i vs))))
     → IsFirstFault (table_tests array j (members_in (view (get_or vs i d)))) p
-    → IsFirstFault (entry_tests array n (tables_in (items_view vs))) p
+    → IsFirstFault (tests_from array n (tables_in (items_view vs))) p
 entries_fault array n [] i j d p h e a f = absurd (omega arith)
 entries_fault array n (v ∷ vs) zero j d p h e a f =
     let same : j ≡ n = omega arith in
@@ -73,9 +77,9 @@ entries_fault array n (v ∷ vs) (suc i) j d p h e a f =
     (entries_fault array (n + 1) vs i j d p (omega arith) (omega arith) (passed-back (table_tests array n (members_in (view v))) _ a) f)
 
 pub entries_more : (array : Array) (n : ℕ) (vs : List Value) (i j : ℕ) (d : Value) → i < length vs → j ≡ n + i
-    → AllByRecursion Passes (entry_tests array n (tables_in (items_view (take i vs))))
+    → AllByRecursion Passes (tests_from array n (tables_in (items_view (take i vs))))
     → AllByRecursion Passes (table_tests array j (members_in (view (get_or vs i d))))
-    → AllByRecursion Passes (entry_tests array n (tables_in (items_view (take (suc i) vs))))
+    → AllByRecursion Passes (tests_from array n (tables_in (items_view (take (suc i) vs))))
 entries_more array n [] i j d h e a f = absurd (omega arith)
 entries_more array n (v ∷ vs) zero j d h e a f =
     let same : j ≡ n = omega arith in
@@ -87,15 +91,15 @@ entries_more array n (v ∷ vs) (suc i) j d h e a f =
 
 -- the same at an item and its table
 pub entry_fault_at : (array : Array) (vs : List Value) (i : ℕ) (v : Value) (t : Members) (p : Place) → i < length vs → v ≡ get_or vs i v → t ≡ members_in (view v)
-    → AllByRecursion Passes (entry_tests array 1 (tables_in (items_view (take i vs)))) → IsFirstFault (table_tests array (i + 1) t) p
-    → IsFirstFault (entry_tests array 1 (tables_in (items_view vs))) p
+    → AllByRecursion Passes (entry_tests array (tables_in (items_view (take i vs)))) → IsFirstFault (table_tests array (i + 1) t) p
+    → IsFirstFault (entry_tests array (tables_in (items_view vs))) p
 entry_fault_at array vs i v t p h is same a f =
     let P : Members → Type 0 = λ ms. IsFirstFault (table_tests array (i + 1) ms) p in
     entries_fault array 1 vs i (i + 1) v p h (omega arith) a (subst P (same ∙ ap (λ w. members_in (view w)) is) f)
 
 pub entry_passes_at : (array : Array) (vs : List Value) (i : ℕ) (v : Value) (t : Members) → i < length vs → v ≡ get_or vs i v → t ≡ members_in (view v)
-    → AllByRecursion Passes (entry_tests array 1 (tables_in (items_view (take i vs)))) → AllByRecursion Passes (table_tests array (i + 1) t)
-    → AllByRecursion Passes (entry_tests array 1 (tables_in (items_view (take (i + 1) vs))))
+    → AllByRecursion Passes (entry_tests array (tables_in (items_view (take i vs)))) → AllByRecursion Passes (table_tests array (i + 1) t)
+    → AllByRecursion Passes (entry_tests array (tables_in (items_view (take (i + 1) vs))))
 entry_passes_at array vs i v t h is same a f =
     let P : Members → Type 0 = λ ms. AllByRecursion Passes (table_tests array (i + 1) ms) in
     rw add-one (entries_more array 1 vs i (i + 1) v h (omega arith) a (subst P (same ∙ ap (λ w. members_in (view w)) is) f))
@@ -133,7 +137,7 @@ rows_met array index ms [] h = tt
 rows_met array index ms (r ∷ rows) h = (h.0, rows_met array index ms rows h.1)
 
 -- entries whose tests pass meet their rows
-pub entries_met : (array : Array) (n : ℕ) (ts : List Members) → AllByRecursion Passes (entry_tests array n ts) → AllByRecursion (λ t. MeetsRows (rows_of array t) t) ts
+pub entries_met : (array : Array) (n : ℕ) (ts : List Members) → AllByRecursion Passes (tests_from array n ts) → AllByRecursion (λ t. MeetsRows (rows_of array t) t) ts
 entries_met array n [] h = tt
 entries_met array n (t ∷ ts) h = (
   rows_met array n t (rows_of array t) (passed-front _ (map (unknown_test array n) (unknown_members (rows_of array t) t)) (passed-front (table_tests array n t) _ h)),

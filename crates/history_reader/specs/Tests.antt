@@ -1,7 +1,7 @@
 -- The tests that a history document must pass, in their order, and the first that fails.
-use Rattle.std.specs.Prelude.{ℕ, ◌≡◌, ◌+◌, Bool, not, List, [], ◌∷◌, ◌++◌, Some, map, filter}
+use Rattle.std.specs.Prelude.{ℕ, ◌≡◌, Bool, not, List, ◌∷◌, ◌++◌, Some, map, filter}
 use Rattle.std.specs.declared.option.Option.{Option}
-use Rattle.std.specs.List.{AllByRecursion, list_any, flat_map}
+use Rattle.std.specs.List.{AllByRecursion, list_any, flat_map, enumerate_from}
 use Rattle.std.specs.Str.{bytes_eq}
 use Rattle.toml.specs.Data.{Data, Members, get_member}
 use Rattle.schemas.specs.Arrays.{array_name}
@@ -72,14 +72,13 @@ tests_by array index rows ms = map (row_test array index ms) rows ++ map (unknow
 abbrev pub table_tests : Array → ℕ → Members → List Test
 table_tests array index ms = tests_by array index (rows_of array ms) ms
 
--- of entries in order, numbered from here
-abbrev pub entry_tests : Array → ℕ → List Members → List Test
-entry_tests array index [] = []
-entry_tests array index (t ∷ ts) = table_tests array index t ++ entry_tests array (index + 1) ts
+-- of entries in order, numbered from 1
+abbrev pub entry_tests : Array → List Members → List Test
+entry_tests array tables = flat_map (λ entry. table_tests array entry.0 entry.1) (enumerate_from 1 tables)
 
 -- of all entries of an array of the document
 abbrev pub array_tests : Members → Array → List Test
-array_tests ms array = entry_tests array 1 (tables_at (array_name array) ms)
+array_tests ms array = entry_tests array (tables_at (array_name array) ms)
 
 -- of a document: its own members, then the entries of one array after another
 abbrev pub document_tests : Members → List Test

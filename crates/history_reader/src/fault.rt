@@ -79,8 +79,8 @@ fn table_fault<'a>(array: Array, index: u64, table: &'a Table) -> Option<Fault<'
 /// The first fault of the entries of an array.
 fn entry_fault<'a>(array: Array, items: &'a [Value]) -> Option<Fault<'a>>
     requires { AreTables (items_view items.now) }
-    ensures some { IfSome result (λ f. IsFirstFault (entry_tests array 1 (tables_in (items_view items.now))) (place_of f)) }
-    ensures none { IfNone result (AllByRecursion Passes (entry_tests array 1 (tables_in (items_view items.now)))) }
+    ensures some { IfSome result (λ f. IsFirstFault (entry_tests array (tables_in (items_view items.now))) (place_of f)) }
+    ensures none { IfNone result (AllByRecursion Passes (entry_tests array (tables_in (items_view items.now)))) }
 {
     for (i, value) in items.iter().enumerate() {
         if let Some(fault) = table_fault(array, i as u64 + 1, table_of(value)) {

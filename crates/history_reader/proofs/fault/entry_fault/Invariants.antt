@@ -6,4 +6,4 @@ use Rattle.history_reader.specs.Tests.{Passes, entry_tests}
 use Rattle.history_reader.proofs.fault.entry_fault.Given as goal
 
 abbrev pub invariant-loop-i : goal.invariant-loop-i
-invariant-loop-i l = AllByRecursion Passes (entry_tests l.array 1 (tables_in (items_view (take l.i l.items))))
+invariant-loop-i l = AllByRecursion Passes (entry_tests l.array (tables_in (items_view (take l.i l.items))))
