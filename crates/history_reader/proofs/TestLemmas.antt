@@ -1,7 +1,6 @@
 -- The first fault of a list of tests.
-use Rattle.std.proofs.Common.{◌≡◌, ℕ, zero, suc, ◌+◌, ◌<◌, List, [], ◌∷◌, ◌++◌, length, take, map, get_or, refl, sym, ap, ◌∙◌, append_assoc, arith}
+use Rattle.std.proofs.Common.{◌≡◌, ℕ, zero, suc, ◌<◌, List, [], ◌∷◌, ◌++◌, length, take, map, get_or, refl, sym, ap, ◌∙◌, append_assoc, arith}
 use Rattle.std.specs.List.{AllByRecursion, flat_map}
-use Rattle.std.proofs.lemmas.List.{take_more, map-append}
 use Rattle.history_reader.specs.Tests.{Place, Test, Passes, IsFirstFault}
 
 pub passed-append : (xs ys : List Test) → AllByRecursion Passes xs → AllByRecursion Passes ys → AllByRecursion Passes (xs ++ ys)
@@ -60,10 +59,6 @@ mapped_fault f [] i d p h a n e = absurd (omega arith)
 mapped_fault f (x ∷ xs) zero d p h a n e = fault-here (f x) (map f xs) p n e
 mapped_fault f (x ∷ xs) (suc i) d p h a n e = fault-back (f x ∷ []) (map f xs) p (a.0, tt) (mapped_fault f xs i d p (omega arith) a.1 n e)
 
-pub mapped_more : {X : Type 0} (f : X → Test) (xs : List X) (i : ℕ) (d : X) → i < length xs
-    → AllByRecursion Passes (map f (take i xs)) → Passes (f (get_or xs i d)) → AllByRecursion Passes (map f (take (i + 1) xs))
-mapped_more f xs i d h a n = rw (take_more xs i d h, map-append f (take i xs) (get_or xs i d ∷ [])) (passed-append _ _ a (n, tt))
-
 -- a list of tests for each item of a list, in order
 pub joined_fault : {X : Type 0} (f : X → List Test) (xs : List X) (i : ℕ) (d : X) (p : Place) → i < length xs
     → AllByRecursion Passes (flat_map f (take i xs)) → IsFirstFault (f (get_or xs i d)) p → IsFirstFault (flat_map f xs) p
@@ -71,13 +66,6 @@ joined_fault f [] i d p h a n = absurd (omega arith)
 joined_fault f (x ∷ xs) zero d p h a n = fault-front (f x) (flat_map f xs) p n
 joined_fault f (x ∷ xs) (suc i) d p h a n =
     fault-back (f x) (flat_map f xs) p (passed-front (f x) _ a) (joined_fault f xs i d p (omega arith) (passed-back (f x) _ a) n)
-
-pub joined_more : {X : Type 0} (f : X → List Test) (xs : List X) (i : ℕ) (d : X) → i < length xs
-    → AllByRecursion Passes (flat_map f (take i xs)) → AllByRecursion Passes (f (get_or xs i d)) → AllByRecursion Passes (flat_map f (take (suc i) xs))
-joined_more f [] i d h a n = absurd (omega arith)
-joined_more f (x ∷ xs) zero d h a n = passed-append (f x) [] n tt
-joined_more f (x ∷ xs) (suc i) d h a n =
-    passed-append (f x) _ (passed-front (f x) _ a) (joined_more f xs i d (omega arith) (passed-back (f x) _ a) n)
 
 pub joined_passed : {X : Type 0} (f : X → List Test) (xs : List X) → AllByRecursion Passes (flat_map f xs) → AllByRecursion (λ x. AllByRecursion Passes (f x)) xs
 joined_passed f [] h = tt

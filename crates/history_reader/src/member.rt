@@ -34,6 +34,7 @@ impl Member {
     ghost use Rattle.std.specs.Prelude.{◌≡◌};
     ghost use Rattle.history_reader.specs.Names.{member_name};
 
+    /// The name by which documents have the member.
     pub fn name(self) -> &'static str
         ensures { result.now ≡ member_name self }
     {

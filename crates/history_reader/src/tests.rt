@@ -265,292 +265,155 @@ fn answer(alloc: Global, text: &[u8]) -> Result<String, Fail> {
     }
 }
 
-/// The answers on documents of these parts, in which `HEAD` stands for the members before those that are tested and
-/// `LONG` for a text of the greatest length.
-fn answers(
-    rt: &impl Abort,
-    alloc: Global,
-    frame: &str,
-    head: &str,
-    long: &str,
-    cases: &[(&str, &str)],
-) -> Result<(), Fail> {
-    for (part, wanted) in cases {
-        let text = document(alloc, frame, head, long, part)?;
+// The words that cases have, and what they stand for: the members of an API entry before those that are tested, and texts
+// of the greatest length.
+const SHORTHANDS: [(&str, &str); 4] = [
+    ("; ", "\n"),
+    (
+        "HEAD",
+        "group=\"\", version=\"v1\", resource=\"pods\", since=\"1.7\", event=",
+    ),
+    (
+        "LONG_GROUP",
+        "abcdefghi.abcdefghi.abcdefghi.abcdefghi.abcdefghi.abcdefghi.abc",
+    ),
+    ("LONG_SEGMENT", "abcdefghabcdefghabcdefghabcdefgh"),
+];
+
+fn document(alloc: Global, frame: &str, part: &str) -> Result<String, Fail> {
+    let mut text = frame.replace(alloc, "PART", part)?;
+    for (word, meaning) in SHORTHANDS {
+        text = text.as_str().replace(alloc, word, meaning)?;
+    }
+    Ok(text)
+}
+
+// Cases are lines: a part of a document in this frame, and what the reader answers.
+fn answers(rt: &impl Abort, alloc: Global, frame: &str, cases: &str) -> Result<(), Fail> {
+    for case in cases.lines() {
+        let (part, want) = case.split_once(" | ").ok_or("no answer")?;
+        let text = document(alloc, frame, part)?;
         let found = answer(alloc, text.as_bytes())?;
-        assert_eq!(rt; found.as_str(), *wanted, "at {part}");
+        assert_eq!(rt; found.as_str(), want, "{part}");
     }
     Ok(())
 }
 
-fn document(
-    alloc: Global,
-    frame: &str,
-    head: &str,
-    long: &str,
-    part: &str,
-) -> Result<String, Fail> {
-    let text = frame.replace(alloc, "PART", part)?;
-    let text = text.as_str().replace(alloc, "HEAD", head)?;
-    Ok(text.as_str().replace(alloc, "LONG", long)?)
-}
+const TOP_CASES: &str = r#" | read
+gate = []; api = [] | read
+a = = 1 | not TOML
+last = "1.33"; first = "v1.28" | entry top 0 member first
+first = 1.28 | entry top 0 member first
+last = "kube=1.33"; gate = {} | entry top 0 member last
+last = 2024-05-01; first = "1.999" | entry top 0 member last
+gate = {}; api = 1; Abc = 1 | entry top 0 member gate
+gate = [{}, 1] | entry top 0 member gate
+gate = [[]] | entry top 0 member gate
+[api]; [[field]] | entry top 0 member api
+spell = 1; field = 1; Abc = 1 | entry top 0 member field
+spell = []; field = [] | read
+spell = 1; Abc = 1; gate = [{}] | entry top 0 member spell
+b = 1; a = 1; Z = 1; gate = [{}] | entry top 0 member Z
+[[gate]]; name = "lower"; [aaa] | entry top 0 member aaa"#;
 
 #[test]
 fn names_the_first_fault(rt: HostRuntime) -> Result<(), Fail> {
-    answers(
-        &rt,
-        rt.alloc(),
-        "PART",
-        "",
-        "",
-        &[
-            ("", "read"),
-            ("gate = []\napi = []", "read"),
-            ("a = = 1", "not TOML"),
-            (
-                "last = \"1.33\"\nfirst = \"v1.28\"",
-                "entry top 0 member first",
-            ),
-            ("first = 1.28", "entry top 0 member first"),
-            ("last = \"kube=1.33\"\ngate = {}", "entry top 0 member last"),
-            (
-                "last = 2024-05-01\nfirst = \"1.999\"",
-                "entry top 0 member last",
-            ),
-            ("gate = {}\napi = 1\nAbc = 1", "entry top 0 member gate"),
-            ("gate = [{}, 1]", "entry top 0 member gate"),
-            ("gate = [[]]", "entry top 0 member gate"),
-            ("[api]\n[[field]]", "entry top 0 member api"),
-            ("spell = 1\nfield = 1\nAbc = 1", "entry top 0 member field"),
-            ("spell = []\nfield = []", "read"),
-            (
-                "spell = 1\nAbc = 1\ngate = [{}]",
-                "entry top 0 member spell",
-            ),
-            ("b = 1\na = 1\nZ = 1\ngate = [{}]", "entry top 0 member Z"),
-            (
-                "[[gate]]\nname = \"lower\"\n[aaa]",
-                "entry top 0 member aaa",
-            ),
-        ],
-    )
+    answers(&rt, rt.alloc(), "PART", TOP_CASES)
 }
+
+const GATE_CASES: &str = r#" | entry gate 1 member name
+name="gate", since="1.1" | entry gate 1 member name
+name="AllAlpha" | entry gate 1 member name
+name="AllBeta" | entry gate 1 member name
+name=7, since=7 | entry gate 1 member name
+name="AllGamma", stage="GAMMA" | entry gate 1 member since
+name="A", since="1.007" | entry gate 1 member since
+name="A", since="v1.7" | entry gate 1 member since
+name="A", since="1.1000" | entry gate 1 member since
+name="A", since=1.7 | entry gate 1 member since
+name="A", since="1.999" | entry gate 1 member stage
+name="A", since="1.7", stage="GAMMA", default=1 | entry gate 1 member stage
+name="A", since="1.7", stage="GA", default=true | entry gate 1 member stage
+name="A", since="1.7", stage="", locked=1 | entry gate 1 member default
+name="A", since="1.7", stage="", default="true" | entry gate 1 member default
+name="A", since="1.7", stage="DEPRECATED", default=true, locked=0, x=1 | entry gate 1 member locked
+name="A", since="1.7", stage="BETA", default=true, y=1, x=1 | entry gate 1 member x
+name="A", since="1.7", removed=false, stage="BETA", default=true | entry gate 1 member removed
+name="A", since="1.7", removed="true" | entry gate 1 member removed
+name="A", since="1.7", removed=true, stage="GAMMA", default=true | entry gate 1 member default
+name="A", since="1.7", removed=true, stage="BETA" | entry gate 1 member stage
+name="A", since="1.7", removed=true}, {name="B", x=1}, {x=1 | entry gate 2 member since
+name="A", since="1.7", removed=true, x=1}, {name="B" | entry gate 1 member x
+name="A", since="1.7", removed=true}, {name="B", since="1.8", removed=true}, { | entry gate 3 member name"#;
 
 #[test]
 fn names_the_first_fault_of_a_gate(rt: HostRuntime) -> Result<(), Fail> {
-    answers(
-        &rt,
-        rt.alloc(),
-        "api = [{}]\ngate = [{PART}]",
-        "",
-        "",
-        &[
-            ("", "entry gate 1 member name"),
-            ("name=\"gate\", since=\"1.1\"", "entry gate 1 member name"),
-            ("name=\"AllAlpha\"", "entry gate 1 member name"),
-            ("name=\"AllBeta\"", "entry gate 1 member name"),
-            ("name=7, since=7", "entry gate 1 member name"),
-            (
-                "name=\"AllGamma\", stage=\"GAMMA\"",
-                "entry gate 1 member since",
-            ),
-            ("name=\"A\", since=\"1.007\"", "entry gate 1 member since"),
-            ("name=\"A\", since=\"v1.7\"", "entry gate 1 member since"),
-            ("name=\"A\", since=\"1.1000\"", "entry gate 1 member since"),
-            ("name=\"A\", since=1.7", "entry gate 1 member since"),
-            ("name=\"A\", since=\"1.999\"", "entry gate 1 member stage"),
-            (
-                "name=\"A\", since=\"1.7\", stage=\"GAMMA\", default=1",
-                "entry gate 1 member stage",
-            ),
-            (
-                "name=\"A\", since=\"1.7\", stage=\"GA\", default=true",
-                "entry gate 1 member stage",
-            ),
-            (
-                "name=\"A\", since=\"1.7\", stage=\"\", locked=1",
-                "entry gate 1 member default",
-            ),
-            (
-                "name=\"A\", since=\"1.7\", stage=\"\", default=\"true\"",
-                "entry gate 1 member default",
-            ),
-            (
-                "name=\"A\", since=\"1.7\", stage=\"DEPRECATED\", default=true, locked=0, x=1",
-                "entry gate 1 member locked",
-            ),
-            (
-                "name=\"A\", since=\"1.7\", stage=\"BETA\", default=true, y=1, x=1",
-                "entry gate 1 member x",
-            ),
-            (
-                "name=\"A\", since=\"1.7\", removed=false, stage=\"BETA\", default=true",
-                "entry gate 1 member removed",
-            ),
-            (
-                "name=\"A\", since=\"1.7\", removed=\"true\"",
-                "entry gate 1 member removed",
-            ),
-            (
-                "name=\"A\", since=\"1.7\", removed=true, stage=\"GAMMA\", default=true",
-                "entry gate 1 member default",
-            ),
-            (
-                "name=\"A\", since=\"1.7\", removed=true, stage=\"BETA\"",
-                "entry gate 1 member stage",
-            ),
-            (
-                "name=\"A\", since=\"1.7\", removed=true}, {name=\"B\", x=1}, {x=1",
-                "entry gate 2 member since",
-            ),
-            (
-                "name=\"A\", since=\"1.7\", removed=true, x=1}, {name=\"B\"",
-                "entry gate 1 member x",
-            ),
-            (
-                "name=\"A\", since=\"1.7\", removed=true}, {name=\"B\", since=\"1.8\", removed=true}, {",
-                "entry gate 3 member name",
-            ),
-        ],
-    )
+    answers(&rt, rt.alloc(), "api = [{}]; gate = [{PART}]", GATE_CASES)
 }
+
+const API_CASES: &str = r#"version="v1" | entry api 1 member group
+group="a..b" | entry api 1 member group
+group="a-.b" | entry api 1 member group
+group="Demo" | entry api 1 member group
+group="LONG_GROUPx" | entry api 1 member group
+group="LONG_GROUP" | entry api 1 member version
+group="", version="v0", resource="Pods" | entry api 1 member version
+group="", version="v1", resource="Pods" | entry api 1 member resource
+group="", version="v1", resource="pods", event="gone" | entry api 1 member since
+group="", version="v1", resource="pods", since="1.7", event="gone", kind=1 | entry api 1 member event
+group="", version="v1", resource="pods", since="1.7", kind="Pod" | entry api 1 member event
+HEAD"introduced", kind="pod", singular="Pod" | entry api 1 member kind
+HEAD"introduced", kind="Pod", singular="Pod" | entry api 1 member singular
+HEAD"introduced", kind="Pod", singular="pod", namespaced=1, enabled=1 | entry api 1 member namespaced
+HEAD"introduced", kind="Pod", singular="pod", namespaced=true, enabled=1.0 | entry api 1 member enabled
+HEAD"introduced", kind="Pod", singular="pod", namespaced=true, enabled=true, removal="1.9" | entry api 1 member removal
+HEAD"deprecated", removal="1.07", replacement="v0" | entry api 1 member removal
+HEAD"deprecated", removal="1.10", replacement="v1beta0" | entry api 1 member replacement
+HEAD"deprecated", removal="1.10", replacement="v2", kind="Pod" | entry api 1 member kind
+HEAD"removed", kind="Pod" | entry api 1 member kind
+HEAD"forgotten", replacement="v2" | entry api 1 member replacement
+HEAD"forgotten"}, {HEAD"removed" | read
+HEAD"forgotten"}, {HEAD"removed", removed=true | entry api 2 member removed"#;
 
 #[test]
 fn names_the_first_fault_of_an_api(rt: HostRuntime) -> Result<(), Fail> {
-    answers(
-        &rt,
-        rt.alloc(),
-        "api = [{PART}]",
-        "group=\"\", version=\"v1\", resource=\"pods\", since=\"1.7\", event=",
-        "abcdefghi.abcdefghi.abcdefghi.abcdefghi.abcdefghi.abcdefghi.abc",
-        &[
-            ("version=\"v1\"", "entry api 1 member group"),
-            ("group=\"a..b\"", "entry api 1 member group"),
-            ("group=\"a-.b\"", "entry api 1 member group"),
-            ("group=\"Demo\"", "entry api 1 member group"),
-            ("group=\"LONGx\"", "entry api 1 member group"),
-            ("group=\"LONG\"", "entry api 1 member version"),
-            (
-                "group=\"\", version=\"v0\", resource=\"Pods\"",
-                "entry api 1 member version",
-            ),
-            (
-                "group=\"\", version=\"v1\", resource=\"Pods\"",
-                "entry api 1 member resource",
-            ),
-            (
-                "group=\"\", version=\"v1\", resource=\"pods\", event=\"gone\"",
-                "entry api 1 member since",
-            ),
-            (
-                "group=\"\", version=\"v1\", resource=\"pods\", since=\"1.7\", event=\"gone\", kind=1",
-                "entry api 1 member event",
-            ),
-            (
-                "group=\"\", version=\"v1\", resource=\"pods\", since=\"1.7\", kind=\"Pod\"",
-                "entry api 1 member event",
-            ),
-            (
-                "HEAD\"introduced\", kind=\"pod\", singular=\"Pod\"",
-                "entry api 1 member kind",
-            ),
-            (
-                "HEAD\"introduced\", kind=\"Pod\", singular=\"Pod\"",
-                "entry api 1 member singular",
-            ),
-            (
-                "HEAD\"introduced\", kind=\"Pod\", singular=\"pod\", namespaced=1, enabled=1",
-                "entry api 1 member namespaced",
-            ),
-            (
-                "HEAD\"introduced\", kind=\"Pod\", singular=\"pod\", namespaced=true, enabled=1.0",
-                "entry api 1 member enabled",
-            ),
-            (
-                "HEAD\"introduced\", kind=\"Pod\", singular=\"pod\", namespaced=true, enabled=true, removal=\"1.9\"",
-                "entry api 1 member removal",
-            ),
-            (
-                "HEAD\"deprecated\", removal=\"1.07\", replacement=\"v0\"",
-                "entry api 1 member removal",
-            ),
-            (
-                "HEAD\"deprecated\", removal=\"1.10\", replacement=\"v1beta0\"",
-                "entry api 1 member replacement",
-            ),
-            (
-                "HEAD\"deprecated\", removal=\"1.10\", replacement=\"v2\", kind=\"Pod\"",
-                "entry api 1 member kind",
-            ),
-            ("HEAD\"removed\", kind=\"Pod\"", "entry api 1 member kind"),
-            (
-                "HEAD\"forgotten\", replacement=\"v2\"",
-                "entry api 1 member replacement",
-            ),
-            ("HEAD\"forgotten\"}, {HEAD\"removed\"", "read"),
-            (
-                "HEAD\"forgotten\"}, {HEAD\"removed\", removed=true",
-                "entry api 2 member removed",
-            ),
-        ],
-    )
+    answers(&rt, rt.alloc(), "api = [{PART}]", API_CASES)
 }
+
+const FIELD_CASES: &str = r#"resource="pods" | entry field 1 member group
+group="", resource="pods", id="Size", type=1 | entry field 1 member id
+group="", resource="pods", id="size", type=1 | entry field 1 member since
+group="", resource="pods", id="size", since="1.7", type="Number" | entry field 1 member type
+group="", resource="pods", id="size", since="1.7", type="Int", required=1, gate="a" | entry field 1 member required
+group="", resource="pods", id="size", since="1.7", type="Int", gate="AllBeta" | entry field 1 member gate
+group="", resource="pods", id="size", since="1.7", type="Int", version="v1" | entry field 1 member version
+group="", resource="pods", id="sizeOf2", since="1.7", type="Bool" | read"#;
 
 #[test]
 fn names_the_first_fault_of_a_field(rt: HostRuntime) -> Result<(), Fail> {
-    answers(
-        &rt,
-        rt.alloc(),
-        "field = [{PART}]",
-        "group=\"\", resource=\"pods\"",
-        "",
-        &[
-            ("resource=\"pods\"", "entry field 1 member group"),
-            ("HEAD, id=\"Size\", type=1", "entry field 1 member id"),
-            ("HEAD, id=\"size\", type=1", "entry field 1 member since"),
-            (
-                "HEAD, id=\"size\", since=\"1.7\", type=\"Number\"",
-                "entry field 1 member type",
-            ),
-            (
-                "HEAD, id=\"size\", since=\"1.7\", type=\"Int\", required=1, gate=\"a\"",
-                "entry field 1 member required",
-            ),
-            (
-                "HEAD, id=\"size\", since=\"1.7\", type=\"Int\", gate=\"AllBeta\"",
-                "entry field 1 member gate",
-            ),
-            (
-                "HEAD, id=\"size\", since=\"1.7\", type=\"Int\", version=\"v1\"",
-                "entry field 1 member version",
-            ),
-            ("HEAD, id=\"sizeOf2\", since=\"1.7\", type=\"Bool\"", "read"),
-        ],
-    )
+    answers(&rt, rt.alloc(), "field = [{PART}]", FIELD_CASES)
 }
+
+const SPELLING_CASES: &str = r#""a.b.c.d.e.f.g.h" | read
+"a.b.c.d.e.f.g.h.i" | entry spell 1 member path
+"a.LONG_SEGMENT" | read
+"a.LONG_SEGMENTb" | entry spell 1 member path
+"a..b" | entry spell 1 member path
+"" | entry spell 1 member path
+"a", form="same" | entry spell 1 member form
+"a", default=1.5 | entry spell 1 member default
+"a", default=["x"] | entry spell 1 member default
+"a", default=9223372036854775807 | read
+"a", default=9223372036854775808 | not TOML
+"a", ty=1 | entry spell 1 member ty"#;
 
 #[test]
 fn names_the_first_fault_of_a_spelling(rt: HostRuntime) -> Result<(), Fail> {
     answers(
         &rt,
         rt.alloc(),
-        "spell = [{group=\"\", resource=\"pods\", version=\"v1\", field=\"x\", since=\"1.7\", path=PART}]",
-        "",
-        "abcdefghabcdefghabcdefghabcdefgh",
-        &[
-            ("\"a.b.c.d.e.f.g.h\"", "read"),
-            ("\"a.b.c.d.e.f.g.h.i\"", "entry spell 1 member path"),
-            ("\"a.LONG\"", "read"),
-            ("\"a.LONGb\"", "entry spell 1 member path"),
-            ("\"a..b\"", "entry spell 1 member path"),
-            ("\"\"", "entry spell 1 member path"),
-            ("\"a\", form=\"same\"", "entry spell 1 member form"),
-            ("\"a\", default=1.5", "entry spell 1 member default"),
-            ("\"a\", default=[\"x\"]", "entry spell 1 member default"),
-            ("\"a\", default=9223372036854775807", "read"),
-            ("\"a\", default=9223372036854775808", "not TOML"),
-            ("\"a\", ty=1", "entry spell 1 member ty"),
-        ],
+        r#"spell = [{group="", resource="pods", version="v1", field="x", since="1.7", path=PART}]"#,
+        SPELLING_CASES,
     )
 }
 

@@ -20,12 +20,14 @@ fn value_at<'a>(table: &'a Table, name: &str) -> Option<&'a Value>
     table.get(name)
 }
 
+/// What stands at a member, if anything does.
 pub fn value_of<'a>(table: &'a Table, member: Member) -> Option<&'a Value>
     ensures { option_map (λ v. view v.now) result ≡ get_member (member_name member) (table_view table.now) }
 {
     value_at(table, member.name())
 }
 
+/// The text of a member, if it holds one.
 pub fn text_member<'a>(table: &'a Table, member: Member) -> Option<&'a str>
     ensures { option_map (λ s. s.now) result ≡ text_at (member_name member) (table_view table.now) }
 {
@@ -35,6 +37,7 @@ pub fn text_member<'a>(table: &'a Table, member: Member) -> Option<&'a str>
     }
 }
 
+/// The boolean of a member, if it holds one.
 pub fn flag_member(table: &Table, member: Member) -> Option<bool>
     ensures { result ≡ flag_at (member_name member) (table_view table.now) }
 {
