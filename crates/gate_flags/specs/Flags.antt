@@ -1,4 +1,4 @@
--- Which flag texts a release accepts, and the first fault of the others.
+-- Which flag texts a release accepts (component-base's --feature-gates), and the first fault of the others.
 use Rattle.std.specs.Prelude.{◌≡◌, ◌≢◌, ◌⊎◌, ℕ, Bool, true, List, All, Some, None, IsSome, codes}
 use Rattle.gate_spec.specs.declared.entry.GateEntry.{GateEntry}
 use Rattle.gate_spec.specs.declared.entry.Stage.{Stage}

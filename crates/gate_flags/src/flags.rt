@@ -40,7 +40,8 @@ fn read_values<'a>(
 }
 
 /// The values of the gates at the release e, by a history whose entries of one gate rise in date, where the text sets
-/// some of them. The text is refused as the release e would refuse it; the fault is the first of its pieces.
+/// some of them. The text is refused exactly where the release e would refuse it, for the first fault of the two
+/// passes.
 pub fn gate_values(
     alloc: Global,
     entries: &[GateEntry],

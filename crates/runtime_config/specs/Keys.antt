@@ -1,4 +1,4 @@
--- The keys of a runtime configuration.
+-- The keys of a runtime configuration (kube-apiserver's --runtime-config).
 use Rattle.std.specs.Prelude.{ℕ, ◌||◌, List, [], ◌∷◌, ◌++◌, Bool, codes}
 use Rattle.std.specs.List.{list_any}
 use Rattle.std.specs.Str.{bytes_eq}

@@ -48,7 +48,8 @@ fn read_config<'k, 'a>(
 
 /// The versions that the release e serves by this history and this text, as `api/all=false,demo.example/v1=true`: those
 /// that are live at e and that the most specific given key switches on, or their introduction where none is given. The
-/// text is refused as the release e would refuse it; the fault is the first of its pieces.
+/// text is refused exactly where the release e would refuse it, for the first fault of the two passes or, last, as
+/// `OnlyAllFalse`.
 pub fn enabled_at(
     alloc: Global,
     entries: &[ApiEntry],

@@ -16,7 +16,7 @@ pub enum ConfigCause {
     UnknownApi,
     /// The key names only versions that come with a later release.
     AfterEmulated,
-    /// The versions that the key names were removed.
+    /// No version that the key names is live, and one was introduced by then.
     RemovedApi,
 }
 
