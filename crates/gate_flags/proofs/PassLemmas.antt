@@ -9,7 +9,7 @@ use Rattle.flag_text.specs.Words.{bool_of}
 use Rattle.flag_text.specs.declared.vocabulary.Vocabulary.TheVariants.{Go}
 use Rattle.flag_text.proofs.PassLemmas.{first_refutes}
 use Rattle.flag_text.specs.Pieces.{FlagPiece, pieces, last_pieces}
-use Rattle.gate_flags.specs.Flags.{IsAssignment, IsAccepted, IsFeatureText, HasFault, IsRefused, IsFirstRefusal, IsTextFault}
+use Rattle.gate_flags.specs.Flags.{IsAssignment, IsAccepted, IsFeatureText, HasFault, IsRefused, IsSecondPassFault, IsTextFault}
 use Rattle.gate_flags.specs.declared.fault.GateCause.{GateCause}
 use Rattle.gate_flags.specs.declared.fault.GateCause.TheVariants.{Missing, BadBool, Unknown, PreAlpha, Locked}
 use Rattle.gate_flags.specs.declared.fault.GateFault.{GateFault}
@@ -51,9 +51,9 @@ fault_refuses entries e text (At place cause) up (inl h) some valid = first_refu
 fault_refuses entries e text (At place cause) up (inr h) some valid =
     first_refutes (IsAccepted (cutoff entries e)) (λ p. IsRefused entries e p cause) (last_pieces (pieces text)) place (λ p. refusal_refutes entries e p cause up) h.1 valid.accepted
 
-pub refusal_is : (entries : List GateEntry) (e : ℕ) (text : List ℕ) (last : List FlagPiece) (fault : GateFault) → All IsAssignment (pieces text) → last ≡ last_pieces (pieces text) → IsFirstRefusal entries e last fault → IsTextFault entries e text fault
+pub refusal_is : (entries : List GateEntry) (e : ℕ) (text : List ℕ) (last : List FlagPiece) (fault : GateFault) → All IsAssignment (pieces text) → last ≡ last_pieces (pieces text) → IsSecondPassFault entries e last fault → IsTextFault entries e text fault
 refusal_is entries e text last Memory first same h = tt
-refusal_is entries e text last (At place cause) first same h = inr (first, subst (λ ps. IsFirstRefusal entries e ps (At place cause)) same h)
+refusal_is entries e text last (At place cause) first same h = inr (first, subst (λ ps. IsSecondPassFault entries e ps (At place cause)) same h)
 
 pub refused_from : {T : Type 0} (entries : List GateEntry) (e : ℕ) (text : List ℕ) (r : Result T GateFault) → RisesInDate entries → IfErr r (IsTextFault entries e text) → IfErr r (λ fault. (fault ≡ Memory → ⊥) → IsFeatureText (cutoff entries e) text → ⊥)
 refused_from entries e text (Ok v) up h = tt

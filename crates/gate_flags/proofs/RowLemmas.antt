@@ -21,9 +21,9 @@ use Rattle.gate_spec.specs.declared.entry.SpecAt.TheVariants.{Found, PreAlpha, R
 use Rattle.gate_spec.specs.Gates.{RisesInDate, cutoff, IsRemovedIn, IsSpecAt}
 use Rattle.gate_spec.proofs.GateLemmas.{spec_at_one}
 use Rattle.flag_text.specs.Pieces.{FlagPiece, last_pieces}
-use Rattle.gate_flags.specs.Values.{boolean_of, given, all_given, gate_value, IsRow, Gates, AreInOrder, AreGateValues}
+use Rattle.gate_flags.specs.Values.{all_given, gate_value, IsRow, Gates, AreInOrder, AreGateValues}
 use Rattle.gate_flags.specs.Lookups.{spec_in, KnowsGates, all_in, value_in, row_of, removed_of, rows_of, removed_gates_of}
-use Rattle.flag_text.specs.Said.{HasSaid, said_in}
+use Rattle.flag_text.specs.Said.{said, last_said, HasSaid, said_in}
 use Rattle.flag_text.specs.declared.vocabulary.Vocabulary.TheVariants.{Go}
 use Rattle.gate_flags.specs.declared.known.Known.{Known}
 use Rattle.gate_flags.specs.declared.values.GateRow.{GateRow}
@@ -82,8 +82,8 @@ and_then-option_map : {T U : Type 0} (f : T → Option U) (o : Option T) → opt
 and_then-option_map f None = refl
 and_then-option_map f (Some x) = refl
 
-given_in : (ps : List FlagPiece) (m : BTreeMap (List ℕ) (Option Bool)) (name : List ℕ) → HasSaid Go ps m → said_in m name ≡ given ps name
-given_in ps m name has = ap (option_and_then (λ (b : Option Bool). b)) (has name) ∙ and_then-option_map boolean_of (find (λ p. bytes_eq p.name name) (last_pieces ps))
+given_in : (ps : List FlagPiece) (m : BTreeMap (List ℕ) (Option Bool)) (name : List ℕ) → HasSaid Go ps m → said_in m name ≡ last_said Go ps name
+given_in ps m name has = ap (option_and_then (λ (b : Option Bool). b)) (has name) ∙ and_then-option_map (said Go) (find (λ p. bytes_eq p.name name) (last_pieces ps))
 
 all_given_in : (ps : List FlagPiece) (m : BTreeMap (List ℕ) (Option Bool)) (stage : Stage) → HasSaid Go ps m → all_in m stage ≡ all_given ps stage
 all_given_in ps m Alpha has = given_in ps m (codes "AllAlpha") has
@@ -94,7 +94,7 @@ all_given_in ps m Deprecated has = refl
 value_is : (ps : List FlagPiece) (m : BTreeMap (List ℕ) (Option Bool)) (name : List ℕ) (stage : Stage) (default : Bool) → HasSaid Go ps m → value_in m name stage default ≡ gate_value ps name stage default
 value_is ps m name stage default has =
     ap (λ o. unwrap_or o (unwrap_or (all_in m stage) default)) (given_in ps m name has)
-    ∙ ap (λ o. unwrap_or (given ps name) (unwrap_or o default)) (all_given_in ps m stage has)
+    ∙ ap (λ o. unwrap_or (last_said Go ps name) (unwrap_or o default)) (all_given_in ps m stage has)
 
 row_from : (m : BTreeMap (List ℕ) (Option Bool)) (name : List ℕ) (s : SpecAt) (row : GateRow) → row_of m name s ≡ Some row
     → (s ≡ Found row.stage row.default row.locked) × (row.name ≡ name) × (row.value ≡ value_in m row.name row.stage row.default)

@@ -6,7 +6,8 @@ use Rattle.gate_spec.specs.declared.entry.SpecAt.TheVariants.{Found, Removed, Ne
 use Rattle.gate_spec.specs.Gates.{cutoff, IsFoundIn, IsSpecAt}
 use Rattle.flag_text.specs.Passes.{IsFirst}
 use Rattle.flag_text.specs.Pieces.{FlagPiece, pieces, last_pieces}
-use Rattle.gate_flags.specs.Values.{boolean_of}
+use Rattle.flag_text.specs.Said.{said}
+use Rattle.flag_text.specs.declared.vocabulary.Vocabulary.TheVariants.{Go}
 use Rattle.gate_flags.specs.declared.fault.GateCause.{GateCause}
 use Rattle.gate_flags.specs.declared.fault.GateCause.TheVariants.{Missing, BadBool, Unknown, PreAlpha, Locked}
 use Rattle.gate_flags.specs.declared.fault.GateFault.{GateFault}
@@ -14,7 +15,7 @@ use Rattle.gate_flags.specs.declared.fault.GateFault.TheVariants.{Memory, At}
 
 -- the piece has a `=` and a boolean word behind it
 abbrev pub IsAssignment : FlagPiece → Type 0
-IsAssignment p = IsSome (boolean_of p)
+IsAssignment p = IsSome (said Go p)
 
 -- a name that speaks of all gates of a stage
 abbrev pub IsAllWord : List ℕ → Type 0
@@ -22,7 +23,7 @@ IsAllWord name = (name ≡ codes "AllAlpha") ⊎ (name ≡ codes "AllBeta")
 
 -- the tables know the gate, and it isn't locked or is given its default
 abbrev pub IsSettable : List GateEntry → FlagPiece → Type 0
-IsSettable tables p = (stage : Stage) × (default : Bool) × (locked : Bool) × IsFoundIn tables p.name stage default locked × (locked ≡ true → boolean_of p ≡ Some default)
+IsSettable tables p = (stage : Stage) × (default : Bool) × (locked : Bool) × IsFoundIn tables p.name stage default locked × (locked ≡ true → said Go p ≡ Some default)
 
 abbrev pub IsAccepted : List GateEntry → FlagPiece → Type 0
 IsAccepted tables p = IsAllWord p.name ⊎ IsSettable tables p
@@ -35,29 +36,29 @@ pub record IsFeatureText (tables : List GateEntry) (text : List ℕ) : Type 0 wh
 -- the fault of a piece by itself
 abbrev pub HasFault : FlagPiece → GateCause → Type 0
 HasFault p Missing = p.value ≡ None
-HasFault p BadBool = IsSome p.value × (boolean_of p ≡ None)
+HasFault p BadBool = IsSome p.value × (said Go p ≡ None)
 HasFault p _ = ⊥
 
 -- the fault of a last piece, by the whole history and the release
 abbrev pub IsRefused : List GateEntry → ℕ → FlagPiece → GateCause → Type 0
 IsRefused entries e p Unknown = ¬ IsAllWord p.name × (IsSpecAt entries p.name e Never ⊎ ((value : Bool) × IsSpecAt entries p.name e (Removed value)))
 IsRefused entries e p PreAlpha = ¬ IsAllWord p.name × IsSpecAt entries p.name e ComesLater
-IsRefused entries e p (Locked default) = ¬ IsAllWord p.name × ((stage : Stage) × IsSpecAt entries p.name e (Found stage default true)) × (boolean_of p ≢ Some default)
+IsRefused entries e p (Locked default) = ¬ IsAllWord p.name × ((stage : Stage) × IsSpecAt entries p.name e (Found stage default true)) × (said Go p ≢ Some default)
 IsRefused entries e p _ = ⊥
 
 -- the first pass: over all pieces, each by itself
-abbrev pub IsFirstFault : List FlagPiece → GateFault → Type 0
-IsFirstFault ps (At place cause) = IsFirst IsAssignment (λ p. HasFault p cause) ps place
-IsFirstFault ps Memory = ⊥
+abbrev pub IsFirstPassFault : List FlagPiece → GateFault → Type 0
+IsFirstPassFault ps (At place cause) = IsFirst IsAssignment (λ p. HasFault p cause) ps place
+IsFirstPassFault ps Memory = ⊥
 
 -- the second pass: over the last piece of each name, by the history and the release
-abbrev pub IsFirstRefusal : List GateEntry → ℕ → List FlagPiece → GateFault → Type 0
-IsFirstRefusal entries e last (At place cause) = IsFirst (IsAccepted (cutoff entries e)) (λ p. IsRefused entries e p cause) last place
-IsFirstRefusal entries e last Memory = ⊥
+abbrev pub IsSecondPassFault : List GateEntry → ℕ → List FlagPiece → GateFault → Type 0
+IsSecondPassFault entries e last (At place cause) = IsFirst (IsAccepted (cutoff entries e)) (λ p. IsRefused entries e p cause) last place
+IsSecondPassFault entries e last Memory = ⊥
 
 -- the fault of a text: the first of the first pass, or else the first of the second; want of memory is free
 abbrev pub IsTextFault : List GateEntry → ℕ → List ℕ → GateFault → Type 0
-IsTextFault entries e text (At place cause) = IsFirstFault (pieces text) (At place cause) ⊎ (All IsAssignment (pieces text) × IsFirstRefusal entries e (last_pieces (pieces text)) (At place cause))
+IsTextFault entries e text (At place cause) = IsFirstPassFault (pieces text) (At place cause) ⊎ (All IsAssignment (pieces text) × IsSecondPassFault entries e (last_pieces (pieces text)) (At place cause))
 IsTextFault entries e text Memory = Unit {0}
 
 -- the name of a cause, as it is printed

@@ -7,30 +7,22 @@ use Rattle.gate_spec.specs.declared.entry.GateEntry.{GateEntry}
 use Rattle.gate_spec.specs.declared.entry.Stage.{Stage}
 use Rattle.gate_spec.specs.declared.entry.Stage.TheVariants.{Alpha, Beta, Ga, Deprecated}
 use Rattle.gate_spec.specs.Gates.{IsFoundIn, IsRemovedIn}
-use Rattle.flag_text.specs.Said.{said, last_said}
+use Rattle.flag_text.specs.Said.{last_said}
 use Rattle.flag_text.specs.declared.vocabulary.Vocabulary.TheVariants.{Go}
 use Rattle.flag_text.specs.Pieces.{FlagPiece}
 use Rattle.gate_flags.specs.declared.values.GateRow.{GateRow}
 use Rattle.gate_flags.specs.declared.values.RemovedGate.{RemovedGate}
 
--- the boolean of a piece, where it has a `=` and a boolean word
-abbrev pub boolean_of : FlagPiece → Option Bool
-boolean_of p = said Go p
-
--- the boolean that the last piece of this name says
-abbrev pub given : List FlagPiece → List ℕ → Option Bool
-given ps name = last_said Go ps name
-
 -- what is given for all gates of the stage
 abbrev pub all_given : List FlagPiece → Stage → Option Bool
-all_given ps Alpha = given ps (codes "AllAlpha")
-all_given ps Beta = given ps (codes "AllBeta")
+all_given ps Alpha = last_said Go ps (codes "AllAlpha")
+all_given ps Beta = last_said Go ps (codes "AllBeta")
 all_given ps Ga = None
 all_given ps Deprecated = None
 
 -- the value of a gate: what is given for it, else what is given for its stage, else its default
 abbrev pub gate_value : List FlagPiece → List ℕ → Stage → Bool → Bool
-gate_value ps name stage default = unwrap_or (given ps name) (unwrap_or (all_given ps stage) default)
+gate_value ps name stage default = unwrap_or (last_said Go ps name) (unwrap_or (all_given ps stage) default)
 
 -- the row of a gate that the tables know
 pub record IsRow (tables : List GateEntry) (ps : List FlagPiece) (row : GateRow) : Type 0 where

@@ -2,9 +2,10 @@
 ghost use Rattle.std.specs.Prelude.{◌≡◌, ◌↔◌, ℕ, List, Bool, IsTrue, IfSome, IfNone, All};
 ghost use Rattle.gate_spec.specs.declared.entry.GateEntry.{GateEntry as TheEntry};
 ghost use Rattle.gate_spec.specs.Gates.{cutoff, IsSpecAt};
-ghost use Rattle.gate_flags.specs.Values.{boolean_of};
+ghost use Rattle.flag_text.specs.Said.{said};
+ghost use Rattle.flag_text.specs.declared.vocabulary.Vocabulary.TheVariants.{Go};
 ghost use Rattle.gate_flags.specs.Lookups.{KnowsGates};
-ghost use Rattle.gate_flags.specs.Flags.{IsAssignment, IsAllWord, IsAccepted, HasFault, IsRefused, IsFirstFault, IsFirstRefusal};
+ghost use Rattle.gate_flags.specs.Flags.{IsAssignment, IsAllWord, IsAccepted, HasFault, IsRefused, IsFirstPassFault, IsSecondPassFault};
 
 use crate::fault::{GateCause, GateFault};
 use crate::known::{Known, spec_in};
@@ -27,7 +28,7 @@ fn own_fault(piece: &Piece<'_>) -> Option<GateCause>
 
 /// The first piece that has a fault by itself.
 pub fn first_fault(pieces: &[Piece<'_>]) -> Option<GateFault>
-    ensures some { IfSome result (IsFirstFault pieces.now) }
+    ensures some { IfSome result (IsFirstPassFault pieces.now) }
     ensures none { IfNone result (All IsAssignment pieces.now) }
 {
     for piece in pieces {
@@ -48,7 +49,7 @@ fn is_all_word(name: &[u8]) -> bool
 }
 
 fn says(piece: &Piece<'_>, value: bool) -> bool
-    ensures { IsTrue result ↔ (boolean_of piece.now ≡ Some value) }
+    ensures { IsTrue result ↔ (said Go piece.now ≡ Some value) }
 {
     match said(Vocabulary::Go, piece) {
         Some(said) => said == value,
@@ -87,7 +88,7 @@ pub fn first_refusal<'a>(
     known: &BTreeMap<Name<'a>, Known<'a>>,
     last: &[Piece<'a>],
 ) -> Option<GateFault>
-    ensures some { (entries : List TheEntry) (e : ℕ) → KnowsGates entries e known.now → IfSome result (IsFirstRefusal entries e last.now) }
+    ensures some { (entries : List TheEntry) (e : ℕ) → KnowsGates entries e known.now → IfSome result (IsSecondPassFault entries e last.now) }
     ensures none { (entries : List TheEntry) (e : ℕ) → KnowsGates entries e known.now → IfNone result (All (IsAccepted (cutoff entries e)) last.now) }
 {
     for piece in last {

@@ -9,10 +9,10 @@ use Rattle.std.proofs.lemmas.Option.{slice_get-get_or}
 use Rattle.std.proofs.lemmas.Slice.Eq.{bytes_eq-Decides}
 use Rattle.basis.proofs.ElementLemmas.{Any-from}
 use Rattle.flag_text.specs.Pieces.{FlagPiece, pieces, last_pieces}
-use Rattle.flag_text.specs.Said.{said}
+use Rattle.flag_text.specs.Said.{said, last_said}
 use Rattle.flag_text.specs.declared.vocabulary.Vocabulary.TheVariants.{Go}
 use Rattle.gate_flags.specs.Flags.{IsFeatureText, IsAllWord, IsAccepted as IsTaken}
-use Rattle.gate_flags.specs.Values.{Gates, AreGateValues, given, all_given, gate_value}
+use Rattle.gate_flags.specs.Values.{Gates, AreGateValues, all_given, gate_value}
 use Rattle.gate_flags.specs.declared.values.GateRow.{GateRow}
 use Rattle.gate_spec.specs.Gates.{cutoff, IsFoundIn}
 use Rattle.gate_spec.specs.declared.entry.GateEntry.{GateEntry}
@@ -81,7 +81,7 @@ module _ (h : Dated) (shaped : IsShaped h) (accepted : IsAccepted h) (e : ℕ) (
   locked_default name stage default locked value there lock is =
       let kept : IsFoundIn tables name stage default true = subst (λ l. IsFoundIn tables name stage default l) lock there in
       let fit : IsFitSpec (Spec stage default true) = subst IsFitSpec kept.2 (All-contains (λ x. IsFitSpec x.change) tables kept.0 fits kept.1.among) in
-      is ∙ ap (λ o. unwrap_or (given (pieces text) name) (unwrap_or o default)) (no_stage stage default (pieces text) fit)
+      is ∙ ap (λ o. unwrap_or (last_said Go (pieces text) name) (unwrap_or o default)) (no_stage stage default (pieces text) fit)
       ∙ given_locked name stage default (find (λ p. bytes_eq p.name name) (last_pieces (pieces text))) kept refl
 
   module _ (gates : Gates) (values : AreGateValues tables (pieces text) gates) where

@@ -12,7 +12,7 @@ use Rattle.lifecycle.specs.Entry.{subject}
 use Rattle.lifecycle.specs.Tables.{cutoff, is_introduction, live}
 use Rattle.lifecycle.specs.declared.entry.ApiEntry.{ApiEntry}
 use Rattle.runtime_config.specs.Keys.{is_api_key, names}
-use Rattle.runtime_config.specs.Config.{IsPair, IsTakenKey, IsRuntimeText, HasFault, IsUnknownKey, IsRemovedKey, IsLaterKey, IsRefused, IsFirstRefusal, IsTextFault, names_some, names_introduced, names_live}
+use Rattle.runtime_config.specs.Config.{IsPair, IsTakenKey, IsRuntimeText, HasFault, IsUnknownKey, IsRemovedKey, IsLaterKey, IsRefused, IsSecondPassFault, IsTextFault, names_some, names_introduced, names_live}
 use Rattle.runtime_config.specs.Standings.{standing_of, standing, cause_of}
 use Rattle.runtime_config.specs.declared.fault.ConfigCause.{ConfigCause}
 use Rattle.runtime_config.specs.declared.fault.ConfigCause.TheVariants.{BadPair, BadBool, UnknownApi, AfterEmulated, RemovedApi}
@@ -143,10 +143,10 @@ fault_refuses entries e text (At place cause) (inl h) some valid = first_refutes
 fault_refuses entries e text (At place cause) (inr h) some valid =
     first_refutes (λ p. IsTakenKey (cutoff entries e) p.name) (λ p. IsRefused entries e p cause) (last_pieces (pieces text)) place (λ p. refusal_refutes entries e p cause) h.1 valid.taken
 
-pub refusal_is : (entries : List ApiEntry) (e : ℕ) (text : List ℕ) (last : List FlagPiece) (fault : ConfigFault) → All IsPair (pieces text) → last ≡ last_pieces (pieces text) → IsFirstRefusal entries e last fault → IsTextFault entries e text fault
+pub refusal_is : (entries : List ApiEntry) (e : ℕ) (text : List ℕ) (last : List FlagPiece) (fault : ConfigFault) → All IsPair (pieces text) → last ≡ last_pieces (pieces text) → IsSecondPassFault entries e last fault → IsTextFault entries e text fault
 refusal_is entries e text last Memory first same h = tt
 refusal_is entries e text last OnlyAllFalse first same h = absurd h
-refusal_is entries e text last (At place cause) first same h = inr (first, subst (λ ps. IsFirstRefusal entries e ps (At place cause)) same h)
+refusal_is entries e text last (At place cause) first same h = inr (first, subst (λ ps. IsSecondPassFault entries e ps (At place cause)) same h)
 
 pub refused_from : {T : Type 0} (entries : List ApiEntry) (e : ℕ) (text : List ℕ) (r : Result T ConfigFault) → IfErr r (IsTextFault entries e text) → IfErr r (λ fault. (fault ≡ Memory → ⊥) → IsRuntimeText (cutoff entries e) text → ⊥)
 refused_from entries e text (Ok v) h = tt

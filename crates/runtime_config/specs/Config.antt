@@ -40,17 +40,9 @@ names_live key tables = list_any (λ x. names key (subject x) && live tables (su
 abbrev pub IsTakenKey : List ApiEntry → List ℕ → Type 0
 IsTakenKey tables key = (is_api_key key ≡ true) ⊎ (names_live key tables ≡ true)
 
--- the piece is `api/all=false`
-abbrev pub IsAllOffPiece : FlagPiece → Type 0
-IsAllOffPiece p = (p.name ≡ all_key) × (said Plain p ≡ Some false)
-
--- it is the only one of the last pieces
-abbrev pub IsOnly : List FlagPiece → Type 0
-IsOnly last = (p : FlagPiece) × (last ≡ p ∷ []) × IsAllOffPiece p
-
--- `api/all` is the only key, and switches all versions off
+-- `api/all=false` is all that is left
 abbrev pub IsOnlyAllFalse : List FlagPiece → Type 0
-IsOnlyAllFalse ps = IsOnly (last_pieces ps)
+IsOnlyAllFalse ps = (p : FlagPiece) × (last_pieces ps ≡ p ∷ []) × (p.name ≡ all_key) × (said Plain p ≡ Some false)
 
 -- the text is valid in the tables
 pub record IsRuntimeText (tables : List ApiEntry) (text : List ℕ) : Type 0 where
@@ -88,27 +80,26 @@ IsRefused entries e p AfterEmulated = IsLaterKey entries (cutoff entries e) p.na
 IsRefused entries e p _ = ⊥
 
 -- the first pass: over all pieces, each by itself
-abbrev pub IsFirstFault : List FlagPiece → ConfigFault → Type 0
-IsFirstFault ps (At place cause) = IsFirst IsPair (λ p. HasFault p cause) ps place
-IsFirstFault ps OnlyAllFalse = ⊥
-IsFirstFault ps Memory = ⊥
+abbrev pub IsFirstPassFault : List FlagPiece → ConfigFault → Type 0
+IsFirstPassFault ps (At place cause) = IsFirst IsPair (λ p. HasFault p cause) ps place
+IsFirstPassFault ps OnlyAllFalse = ⊥
+IsFirstPassFault ps Memory = ⊥
 
 -- the second pass: over the last piece of each key, by the history and the release
-abbrev pub IsFirstRefusal : List ApiEntry → ℕ → List FlagPiece → ConfigFault → Type 0
-IsFirstRefusal entries e last (At place cause) = IsFirst (λ p. IsTakenKey (cutoff entries e) p.name) (λ p. IsRefused entries e p cause) last place
-IsFirstRefusal entries e last OnlyAllFalse = ⊥
-IsFirstRefusal entries e last Memory = ⊥
+abbrev pub IsSecondPassFault : List ApiEntry → ℕ → List FlagPiece → ConfigFault → Type 0
+IsSecondPassFault entries e last (At place cause) = IsFirst (λ p. IsTakenKey (cutoff entries e) p.name) (λ p. IsRefused entries e p cause) last place
+IsSecondPassFault entries e last OnlyAllFalse = ⊥
+IsSecondPassFault entries e last Memory = ⊥
 
--- both passes find nothing, and all that is left is `api/all=false`
-pub record IsAllOff (tables : List ApiEntry) (text : List ℕ) : Type 0 where
+-- the first pass finds nothing, and all that is left is `api/all=false`, which every release takes
+pub record IsAllOff (text : List ℕ) : Type 0 where
   pub pairs : All IsPair (pieces text)
-  pub taken : All (λ p. IsTakenKey tables p.name) (last_pieces (pieces text))
   pub only : IsOnlyAllFalse (pieces text)
 
 -- the fault of a text; want of memory is free
 abbrev pub IsTextFault : List ApiEntry → ℕ → List ℕ → ConfigFault → Type 0
-IsTextFault entries e text (At place cause) = IsFirstFault (pieces text) (At place cause) ⊎ (All IsPair (pieces text) × IsFirstRefusal entries e (last_pieces (pieces text)) (At place cause))
-IsTextFault entries e text OnlyAllFalse = IsAllOff (cutoff entries e) text
+IsTextFault entries e text (At place cause) = IsFirstPassFault (pieces text) (At place cause) ⊎ (All IsPair (pieces text) × IsSecondPassFault entries e (last_pieces (pieces text)) (At place cause))
+IsTextFault entries e text OnlyAllFalse = IsAllOff text
 IsTextFault entries e text Memory = Unit {0}
 
 -- the version word that a version's text is

@@ -1,10 +1,12 @@
 //! The two passes over the pieces of a text.
-ghost use Rattle.std.specs.Prelude.{◌≡◌, ◌↔◌, IsTrue, IfSome, IfNone, All, List, ℕ, Option};
-ghost use Rattle.flag_text.specs.Pieces.{last_pieces};
+ghost use Rattle.std.specs.Prelude.{◌≡◌, ◌↔◌, IsTrue, IfSome, IfNone, All, List, ℕ, Option, Some, false};
+ghost use Rattle.flag_text.specs.Pieces.{FlagPiece, last_pieces};
 ghost use Rattle.flag_text.specs.Said.{said};
+ghost use Rattle.flag_text.specs.declared.vocabulary.Vocabulary.TheVariants.{Plain};
 ghost use Rattle.lifecycle.specs.declared.entry.ApiEntry.{ApiEntry as TheEntry};
 ghost use Rattle.lifecycle.specs.Tables.{cutoff};
-ghost use Rattle.runtime_config.specs.Config.{IsPair, IsTakenKey, HasFault, IsRefused, IsFirstFault, IsFirstRefusal, IsAllOffPiece, IsOnly};
+ghost use Rattle.runtime_config.specs.Keys.{all_key};
+ghost use Rattle.runtime_config.specs.Config.{IsPair, IsTakenKey, HasFault, IsRefused, IsFirstPassFault, IsSecondPassFault, IsOnlyAllFalse};
 ghost use Rattle.runtime_config.specs.Standings.{standing, standing_cause, cause_of, HasStandings};
 
 use crate::fault::{ConfigCause, ConfigFault};
@@ -27,7 +29,7 @@ fn own_fault(piece: &Piece<'_>) -> Option<ConfigCause>
 
 /// The first piece that has a fault by itself.
 pub fn first_fault(pieces: &[Piece<'_>]) -> Option<ConfigFault>
-    ensures some { IfSome result (IsFirstFault pieces.now) }
+    ensures some { IfSome result (IsFirstPassFault pieces.now) }
     ensures none { IfNone result (All IsPair pieces.now) }
 {
     for piece in pieces {
@@ -75,7 +77,7 @@ fn refusal(piece: &Piece<'_>, found: Option<Standing>) -> Option<ConfigCause>
 
 /// The first of the last pieces that the release refuses.
 pub fn first_refusal<'a>(known: &Standings<'a>, last: &[Piece<'a>]) -> Option<ConfigFault>
-    ensures some { (entries : List TheEntry) (e : ℕ) → HasStandings (cutoff entries e) e entries known.now → IfSome result (IsFirstRefusal entries e last.now) }
+    ensures some { (entries : List TheEntry) (e : ℕ) → HasStandings (cutoff entries e) e entries known.now → IfSome result (IsSecondPassFault entries e last.now) }
     ensures none { (entries : List TheEntry) (e : ℕ) → HasStandings (cutoff entries e) e entries known.now → IfNone result (All (λ p. IsTakenKey (cutoff entries e) p.name) last.now) }
 {
     for piece in last {
@@ -90,14 +92,14 @@ pub fn first_refusal<'a>(known: &Standings<'a>, last: &[Piece<'a>]) -> Option<Co
 }
 
 fn is_all_off(piece: &Piece<'_>) -> bool
-    ensures { IsTrue result ↔ IsAllOffPiece piece.now }
+    ensures { IsTrue result ↔ ((piece.now.name ≡ all_key) × (said Plain piece.now ≡ Some false)) }
 {
     piece.name == ALL && said(Vocabulary::Plain, piece) == Some(false)
 }
 
 /// Whether `api/all=false` is all that is left.
 pub fn is_only_all_false(last: &[Piece<'_>]) -> bool
-    ensures { IsTrue result ↔ IsOnly last.now }
+    ensures { (ps : List FlagPiece) → last.now ≡ last_pieces ps → IsTrue result ↔ IsOnlyAllFalse ps }
 {
     last.len() == 1 && is_all_off(&last[0])
 }

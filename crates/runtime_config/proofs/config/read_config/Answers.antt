@@ -7,7 +7,7 @@ use Rattle.flag_text.specs.declared.vocabulary.Vocabulary.TheVariants.{Plain}
 use Rattle.lifecycle.specs.Entry.{GroupVersionResource}
 use Rattle.lifecycle.specs.Tables.{cutoff}
 use Rattle.lifecycle.specs.declared.entry.ApiEntry.{ApiEntry}
-use Rattle.runtime_config.specs.Config.{IsPair, IsTakenKey, IsOnly, AreServed}
+use Rattle.runtime_config.specs.Config.{IsPair, IsTakenKey, AreServed}
 use Rattle.runtime_config.specs.Standings.{HasStandings}
 use Rattle.runtime_config.specs.Serving.{Booleans, AreNamesOn}
 use Rattle.runtime_config.specs.declared.standing.Standing.{Standing}
@@ -34,7 +34,7 @@ returns-clause-accepted c = record {
   taken = subst (λ ps. All (λ p. IsTakenKey (cutoff c.args.entries.now c.args.e) p.name) ps) (c.deref-2.ensures.value ∙ c.in_ok-last.ensures.order ∙ ap last_pieces c.in_ok-pieces.ensures)
       (c.in_default-first_refusal.ensures.none c.args.entries.now c.args.e (has_all c.args.entries.now _ _ c.args.e c.in_ok-known.known c.in_ok-index.ensures c.requires.whole c.in_ok-known.ensures));
   more = λ only.
-      let there : c.is_only_all_false.result ≡ true = c.is_only_all_false.ensures.1 (subst IsOnly (sym (c.deref-3.ensures.value ∙ c.in_ok-last.ensures.order ∙ ap last_pieces c.in_ok-pieces.ensures)) only) in
+      let there : c.is_only_all_false.result ≡ true = (c.is_only_all_false.ensures (pieces c.args.text.now) (c.deref-3.ensures.value ∙ c.in_ok-last.ensures.order ∙ ap last_pieces c.in_ok-pieces.ensures)).1 only in
       false≢true (sym c.if-is_only_all_false.false ∙ there);
 }
 

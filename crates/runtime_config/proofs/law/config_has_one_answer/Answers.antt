@@ -1,11 +1,13 @@
-use Rattle.std.proofs.Common.{◌≡◌, ℕ, List, All, Option, Some, None, IsSome, inl, inr, refl, sym, ◌∙◌, ap}
+use Rattle.std.proofs.Common.{◌≡◌, ℕ, List, [], ◌∷◌, All, Option, Some, None, IsSome, inl, inr, refl, sym, ◌∙◌, ap, subst}
 use Rattle.std.proofs.lemmas.Bool.{false≢true}
+use Rattle.std.proofs.lemmas.List.Elements.{All-from_recursion}
 use Rattle.flag_text.specs.Passes.{IsFirst}
 use Rattle.flag_text.specs.Pieces.{FlagPiece, pieces, last_pieces}
 use Rattle.flag_text.proofs.PassLemmas.{first_refutes, one_at}
 use Rattle.lifecycle.specs.Tables.{cutoff}
 use Rattle.lifecycle.specs.declared.entry.ApiEntry.{ApiEntry}
-use Rattle.runtime_config.specs.Config.{IsPair, IsTakenKey, HasFault, IsRefused}
+use Rattle.runtime_config.specs.Config.{IsPair, IsTakenKey, IsOnlyAllFalse, HasFault, IsRefused}
+use Rattle.runtime_config.specs.Keys.{is_api_key}
 use Rattle.runtime_config.specs.Laws.{HasOneServedSet, HasOneFault, IsFaultlessWhereValid}
 use Rattle.runtime_config.specs.Served.{by_name}
 use Rattle.runtime_config.specs.declared.fault.ConfigCause.{ConfigCause}
@@ -64,15 +66,19 @@ module _ (entries : List ApiEntry) (e : ℕ) (text : List ℕ) where
   no_second : (m : ℕ) (c : ConfigCause) → IsFirst Taken (λ p. IsRefused entries e p c) (last_pieces (pieces text)) m → All Taken (last_pieces (pieces text)) → ⊥
   no_second m c h all = first_refutes Taken (λ p. IsRefused entries e p c) (last_pieces (pieces text)) m (λ p. refusal_refutes entries e p c) h all
 
+  -- every release takes the key `api/all`
+  only_taken : IsOnlyAllFalse (pieces text) → All Taken (last_pieces (pieces text))
+  only_taken only = subst (λ ps. All Taken ps) (sym only.1) (All-from_recursion Taken (only.0 ∷ []) (inl (ap is_api_key only.2), tt))
+
   one_fault : HasOneFault entries e text
   one_fault Memory g some other h k = absurd (some refl)
   one_fault (At m c) Memory some other h k = absurd (other refl)
   one_fault OnlyAllFalse Memory some other h k = absurd (other refl)
   one_fault OnlyAllFalse OnlyAllFalse some other h k = refl
   one_fault OnlyAllFalse (At n d) some other h (inl k) = absurd (no_first n d k h.pairs)
-  one_fault OnlyAllFalse (At n d) some other h (inr k) = absurd (no_second n d k.1 h.taken)
+  one_fault OnlyAllFalse (At n d) some other h (inr k) = absurd (no_second n d k.1 (only_taken h.only))
   one_fault (At m c) OnlyAllFalse some other (inl h) k = absurd (no_first m c h k.pairs)
-  one_fault (At m c) OnlyAllFalse some other (inr h) k = absurd (no_second m c h.1 k.taken)
+  one_fault (At m c) OnlyAllFalse some other (inr h) k = absurd (no_second m c h.1 (only_taken k.only))
   one_fault (At m c) (At n d) some other (inl h) (inl k) = one_at At IsPair HasFault (pieces text) m n c d fault_refutes (λ p c d a b. fault_cause p c a ∙ sym (fault_cause p d b)) h k
   one_fault (At m c) (At n d) some other (inl h) (inr k) = absurd (no_first m c h k.0)
   one_fault (At m c) (At n d) some other (inr h) (inl k) = absurd (no_first n d k h.0)
