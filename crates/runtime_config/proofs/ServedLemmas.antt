@@ -1,11 +1,11 @@
 -- The versions that a text leaves served.
-use Rattle.std.proofs.Common.{◌≡◌, ◌↔◌, ◌&&◌, ℕ, Bool, true, false, List, [], ◌∷◌, ◌++◌, Option, Some, None, Any, IsTrue, refl, sym, ◌∙◌, ap, subst, find}
+use Rattle.std.proofs.Common.{◌≡◌, ◌↔◌, ◌&&◌, ℕ, Bool, true, List, [], ◌∷◌, ◌++◌, Option, Some, None, Any, IsTrue, refl, sym, ◌∙◌, ap, subst, find}
 use Rattle.std.specs.Prelude.{nat_le}
 use Rattle.std.specs.List.Sorted.{IsStrictlySortedBy}
 use Rattle.std.specs.Option.{option_map, option_and_then}
 use Rattle.std.specs.Str.{bytes_eq}
 use Rattle.std.specs.BTreeSet.{insert_key}
-use Rattle.std.proofs.lemmas.Bool.{false≢true, and_parts}
+use Rattle.std.proofs.lemmas.Bool.{and_parts}
 use Rattle.basis.proofs.ElementLemmas.{keys_of-push, keys_of-same, Any-weaker}
 use Rattle.flag_text.specs.Pieces.{FlagPiece, last_pieces}
 use Rattle.flag_text.specs.Said.{said, last_said, HasSaid, said_in}
@@ -41,9 +41,6 @@ on_where tables m name text resource version enabled on p q r s there switched =
       (λ yes'. record { live = there; word = w; has_word = has; on = sym is ∙ yes' }),
       (λ h. is ∙ ap (λ (v : Option VersionWord). switched_in m (resource_key name) (version_key name) v (enabled_by_default tables name)) (one_word name.version w h.word has h.has_word) ∙ h.on),
     )
-
-pub not_on : (tables : List ApiEntry) (m : Booleans) (name : GroupVersionResource) → live tables name ≡ false → IsOnIn tables m name → ⊥
-not_on tables m name gone h = false≢true (sym gone ∙ h.live)
 
 abbrev Gives : List ApiEntry → Booleans → ApiEntry → GroupVersionResource → Type 0
 Gives tables m x name = (subject x ≡ name) × IsOnIn tables m name

@@ -1,5 +1,5 @@
 -- How the standings of keys grow by a row.
-use Rattle.std.proofs.Common.{◌≡◌, ◌&&◌, ◌||◌, ℕ, Bool, true, false, List, [], ◌∷◌, ◌++◌, Option, Some, None, cond, refl, sym, ◌∙◌, ap, subst, inl, inr, length, take, get_or, ◌+◌, ◌<◌, string_bytes}
+use Rattle.std.proofs.Common.{◌≡◌, ◌&&◌, ◌||◌, ℕ, Bool, true, false, List, [], ◌∷◌, ◌++◌, Some, refl, sym, ◌∙◌, ap, subst, inl, inr, length, take, get_or, ◌+◌, ◌<◌, string_bytes}
 use Rattle.std.specs.Prelude.{nat_le, if◌then◌else◌}
 use Rattle.std.specs.Ordering.{nat_cmp}
 use Rattle.std.specs.Str.{bytes_eq}
@@ -20,7 +20,7 @@ use Rattle.std.specs.List.{AllByRecursion}
 use Rattle.std.proofs.lemmas.List.{map_more}
 use Rattle.std.proofs.lemmas.List.Elements.{All-from_recursion}
 use Rattle.runtime_config.specs.Standings.{standing_of, standing, HasStandings}
-use Rattle.runtime_config.specs.Merges.{better, merged, own_standing, Raises, TakesIn}
+use Rattle.runtime_config.specs.Merges.{merged, own_standing, Raises, TakesIn}
 use Rattle.runtime_config.specs.declared.keys.Row.{Row}
 use Rattle.runtime_config.specs.declared.standing.Standing.{Standing}
 use Rattle.runtime_config.specs.declared.standing.Standing.TheVariants.{Later, Gone, Live}
@@ -39,36 +39,6 @@ raised m n key own new is updates q = elim (cases_Bool (bytes_eq key q)) [
   | inr apart ↦
       updates.2 q (at_bytes key q ∙ apart) ∙ sym (cond-false (bytes_eq q key) (Some (merged (get (slice_cmp nat_cmp) m q) own)) (get (slice_cmp nat_cmp) m q) (bytes_turned q key ∙ apart))
 ]
-
-better_twice : (s own : Standing) → better (better s own) own ≡ better s own
-better_twice Live own = refl
-better_twice Gone Live = refl
-better_twice Gone Gone = refl
-better_twice Gone Later = refl
-better_twice Later Live = refl
-better_twice Later Gone = refl
-better_twice Later Later = refl
-
-merged_twice : (o : Option Standing) (own : Standing) → merged (Some (merged o own)) own ≡ merged o own
-merged_twice None Live = refl
-merged_twice None Gone = refl
-merged_twice None Later = refl
-merged_twice (Some s) own = better_twice s own
-
-raised_twice : (a b : Bool) (o : Option Standing) (own : Standing) → cond b (Some (merged (cond a (Some (merged o own)) o) own)) (cond a (Some (merged o own)) o) ≡ cond (a || b) (Some (merged o own)) o
-raised_twice true true o own = ap Some (merged_twice o own)
-raised_twice true false o own = refl
-raised_twice false b o own = refl
-
--- both keys of a row in turn
-pub taken_in : (m k n : Standings) (row : Row) (own : Standing) (a b : List ℕ) → a ≡ string_bytes row.version → b ≡ string_bytes row.resource → Raises m k a own → Raises k n b own → TakesIn m n row own
-taken_in m k n row own a b p r one two q =
-    let first = one q in
-    two q
-    ∙ ap (λ o. cond (bytes_eq q b) (Some (merged o own)) o) first
-    ∙ raised_twice (bytes_eq q a) (bytes_eq q b) (get (slice_cmp nat_cmp) m q) own
-    ∙ ap (λ (s : List ℕ). cond (bytes_eq q s || bytes_eq q b) (Some (merged (get (slice_cmp nat_cmp) m q) own)) (get (slice_cmp nat_cmp) m q)) p
-    ∙ ap (λ (s : List ℕ). cond (bytes_eq q (string_bytes row.version) || bytes_eq q s) (Some (merged (get (slice_cmp nat_cmp) m q) own)) (get (slice_cmp nat_cmp) m q)) r
 
 or_false : (b : Bool) → (b || false) ≡ b
 or_false true = refl
@@ -94,9 +64,6 @@ more_named true false false true false false = refl
 more_named false false false true false false = refl
 
 module _ (tables : List ApiEntry) (e : ℕ) (key : List ℕ) where
-  by_name : ApiEntry → Bool
-  by_name x = names key (subject x)
-
   standing_named : (xs : List ApiEntry) (x : ApiEntry) → names key (subject x) ≡ true → standing tables e (xs ++ x ∷ []) key ≡ Some (merged (standing tables e xs key) (own_standing tables e x))
   standing_named xs x named =
       let some = list_any-append (λ y. names key (subject y)) xs (x ∷ []) in
