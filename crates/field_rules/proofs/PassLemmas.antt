@@ -12,25 +12,9 @@ pub each_told : {X : Type 0} (Yes : X → Type 0) (xs : List X) (r : Bool) → M
 each_told {X} Yes xs true h = (λ t. λ (k : ℕ) (d : X) (within : k < length xs). h k d (omega arith) within, λ all. refl)
 each_told Yes xs false h = (λ t. absurd (false≢true t), λ all. absurd (let d = (entry_at xs h.0 h.1).0 in h.2 d (all h.0 d h.1)))
 
--- what a call of `any` tells of some item
-pub some_told : {X : Type 0} (Yes : X → Type 0) (xs : List X) (r : Bool) → MatchBool r ((k : ℕ) × (k < length xs) × HoldsAt Yes xs k) (AllWithin (λ x. ¬ Yes x) xs 0 (length xs)) → IsTrue r ↔ Any Yes xs
-some_told {X} Yes xs true h = (λ t. let d = entry_at xs h.0 h.1 in (h.0, d.0, h.1, get_or_from_slice_get xs h.0 d.0 d.0 d.1, subst Yes (get_or_from_slice_get xs h.0 d.0 d.0 d.1) (h.2 d.0)), λ any. refl)
-some_told {X} Yes xs false h = (λ t. absurd (false≢true t), λ any. absurd (let k : any.0 < length xs = any.2 in h any.0 any.1 (omega arith) k (subst Yes (sym any.3) any.4)))
-
 -- the fact holds of each of the first n items
 abbrev pub AllBelow : {X : Type 0} → (X → Type 0) → List X → ℕ → Type 0
 AllBelow {X} P xs n = (k : ℕ) (d : X) → k < n → P (get_or xs k d)
-
-pub below_none : {X : Type 0} (P : X → Type 0) (xs : List X) → AllBelow P xs 0
-below_none {X} P xs = λ (k : ℕ) (d : X) (low : k < 0). absurd (omega arith)
-
-pub below_next : {X : Type 0} (P : X → Type 0) (xs : List X) (n : ℕ) (x : X) → n < length xs → x ≡ get_or xs n x → AllBelow P xs n → P x → AllBelow P xs (n + 1)
-below_next {X} P xs n x within is before here = λ (k : ℕ) (d : X) (low : k < n + 1).
-    let at_most : k ≤ n = omega arith in
-    elim (eq-or-lt_of_le at_most) [
-      | inr less ↦ before k d less
-      | inl same ↦ subst (λ (m : ℕ). P (get_or xs m d)) (sym same) (subst P (sym (get_or_from_slice_get xs n x d (slice_get_read xs (length xs) n x refl within is))) here)
-    ]
 
 pub below_whole : {X : Type 0} (P : X → Type 0) (xs : List X) (n : ℕ) → length xs ≤ n → AllBelow P xs n → All P xs
 below_whole {X} P xs n whole before = λ (k : ℕ) (d : X) (within : k < length xs). before k d (omega arith)

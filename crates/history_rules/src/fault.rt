@@ -15,7 +15,7 @@ pub enum CheckFault {
 impl fmt::Display for CheckFault {
     fn fmt<W: fmt::Write>(&self, f: &mut fmt::Formatter<W>) -> fmt::Result {
         match self {
-            CheckFault::Memory => write!(f, "out of memory"),
+            CheckFault::Memory => f.write_str("out of memory"),
             CheckFault::Broken { rule, array, index } => {
                 write!(f, "rule HR{rule} at {} {index}", array.name())
             }
