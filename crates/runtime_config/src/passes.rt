@@ -1,12 +1,12 @@
 //! The two passes over the pieces of a text.
-ghost use Rattle.std.specs.Prelude.{◌≡◌, ◌↔◌, IsTrue, IfSome, IfNone, All, List, ℕ, Option, Some, false};
-ghost use Rattle.flag_text.specs.Pieces.{FlagPiece, last_pieces};
+ghost use Rattle.std.specs.Prelude.{◌≡◌, ◌↔◌, IsTrue, IfSome, IfNone, All, List, [], ◌∷◌, ℕ, Option, Some, false};
+ghost use Rattle.flag_text.specs.Pieces.{FlagPiece};
 ghost use Rattle.flag_text.specs.Said.{said};
 ghost use Rattle.flag_text.specs.declared.vocabulary.Vocabulary.TheVariants.{Plain};
 ghost use Rattle.lifecycle.specs.declared.entry.ApiEntry.{ApiEntry as TheEntry};
 ghost use Rattle.lifecycle.specs.Tables.{cutoff};
 ghost use Rattle.runtime_config.specs.Keys.{all_key};
-ghost use Rattle.runtime_config.specs.Config.{IsPair, IsTakenKey, HasFault, IsRefused, IsFirstPassFault, IsSecondPassFault, IsOnlyAllFalse};
+ghost use Rattle.runtime_config.specs.Config.{IsPair, IsTakenKey, HasFault, IsRefused, IsFirstPassFault, IsSecondPassFault};
 ghost use Rattle.runtime_config.specs.Standings.{standing, standing_cause, cause_of, HasStandings};
 
 use crate::fault::{ConfigCause, ConfigFault};
@@ -99,7 +99,7 @@ fn is_all_off(piece: &Piece<'_>) -> bool
 
 /// Whether `api/all=false` is all that is left.
 pub fn is_only_all_false(last: &[Piece<'_>]) -> bool
-    ensures { (ps : List FlagPiece) → last.now ≡ last_pieces ps → IsTrue result ↔ IsOnlyAllFalse ps }
+    ensures { IsTrue result ↔ ((p : FlagPiece) × (last.now ≡ p ∷ []) × (p.name ≡ all_key) × (said Plain p ≡ Some false)) }
 {
     last.len() == 1 && is_all_off(&last[0])
 }

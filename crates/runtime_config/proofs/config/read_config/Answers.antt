@@ -34,7 +34,7 @@ returns-clause-accepted c = record {
   taken = subst (λ ps. All (λ p. IsTakenKey (cutoff c.args.entries.now c.args.e) p.name) ps) (c.deref-2.ensures.value ∙ c.in_ok-last.ensures.order ∙ ap last_pieces c.in_ok-pieces.ensures)
       (c.in_default-first_refusal.ensures.none c.args.entries.now c.args.e (has_all c.args.entries.now _ _ c.args.e c.in_ok-known.known c.in_ok-index.ensures c.requires.whole c.in_ok-known.ensures));
   more = λ only.
-      let there : c.is_only_all_false.result ≡ true = (c.is_only_all_false.ensures (pieces c.args.text.now) (c.deref-3.ensures.value ∙ c.in_ok-last.ensures.order ∙ ap last_pieces c.in_ok-pieces.ensures)).1 only in
+      let there : c.is_only_all_false.result ≡ true = c.is_only_all_false.ensures.1 (only.0, c.deref-3.ensures.value ∙ c.in_ok-last.ensures.order ∙ ap last_pieces c.in_ok-pieces.ensures ∙ only.1, only.2, only.3) in
       false≢true (sym c.if-is_only_all_false.false ∙ there);
 }
 
