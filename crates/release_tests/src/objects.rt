@@ -1,5 +1,6 @@
 //! What objects are converted to at the release 1.30 of the product's example, with pods in the core group.
-use crate::samples::{WIDGETS, release, view_of};
+use crate::samples::{release, view_of};
+use example::WIDGETS;
 use object_convert::{convert, object_has_one_answer};
 use release_view::View;
 use std::alloc::Global;

@@ -1,7 +1,8 @@
 //! What the pages of a release hold. Each case asks for a page, or looks something up, with a few words: the number of a
 //! release, what is asked, and of what.
-use crate::samples::{WIDGETS, release, view_of, widgets};
+use crate::samples::{release, view_of, widgets};
 use discovery::{group, group_list, metrics, resource_list, version_info};
+use example::WIDGETS;
 use minor_version::Minor;
 use release_view::View;
 use serde_json::Value;

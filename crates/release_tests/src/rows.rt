@@ -1,5 +1,6 @@
 //! The rows of the versions of a resource, at several releases and with a gate set.
-use crate::samples::{WIDGETS, accepted, widgets};
+use crate::samples::{accepted, widgets};
+use example::WIDGETS;
 use fields::{FieldRow, FieldValue};
 use gate_flags::gate_values;
 use minor_version::from_number;

@@ -1,8 +1,8 @@
 //! What no clause tells: that commands end otherwise than in want of memory, with the texts of the product's example.
-use crate::samples::WIDGETS;
 use emu_server::{
     FailList, MemSink, MemSource, Sink, Source, Status, StdSink, StdSource, run_plain,
 };
+use example::WIDGETS;
 use minor_version::Blob;
 use std::alloc::Global;
 use std::process::Abort;
