@@ -2,7 +2,9 @@
 //! break other rules.
 use crate::entries::document;
 use field_rules::first_broken;
+use fields::{FieldValue, Form, Path, Spell, TextList};
 use history_reader::read_history;
+use minor_version::{Text, from_number};
 use schemas::{Broken, History};
 use std::alloc::Global;
 use std::process::Abort;
@@ -105,6 +107,47 @@ api g v1 a 28 new A, field a x 28 TextList, spell a v1 x 28 x 'Same' | lawful";
 #[test]
 fn forms_and_defaults(rt: HostRuntime) -> Result<(), Fail> {
     answers(&rt, rt.alloc(), FORMS_AND_DEFAULTS)
+}
+
+// A spelling whose default is a list, which no document can write.
+fn with_list_as_default(alloc: Global) -> Result<Spell, Fail> {
+    let mut path = Path::new();
+    path.push(alloc, Text::from_str(alloc, "x")?)?;
+    Ok(Spell {
+        since: from_number(28).ok_or("no release")?,
+        form: Form::Same,
+        group: Text::from_str(alloc, "g")?,
+        resource: Text::from_str(alloc, "a")?,
+        version: Text::from_str(alloc, "v1")?,
+        field: Text::from_str(alloc, "x")?,
+        path,
+        default: Some(FieldValue::List(TextList::new())),
+    })
+}
+
+fn answer_with(alloc: Global, history: &History, spell: Spell) -> Result<String, Fail> {
+    let first = history.first.ok_or("no first release")?;
+    let broken = first_broken(
+        alloc,
+        first,
+        history.gates.items(),
+        history.apis.items(),
+        history.fields.items(),
+        &[spell],
+    )?;
+    told(alloc, broken)
+}
+
+#[test]
+fn list_as_default(rt: HostRuntime) -> Result<(), Fail> {
+    let alloc = rt.alloc();
+    let text = document(alloc, "api g v1 a 28 new A, field a x 28 TextList")?;
+    let Ok(history) = read_history(alloc, text.as_bytes()) else {
+        return Err(Fail::new("no history"));
+    };
+    let found = answer_with(alloc, &history, with_list_as_default(alloc)?)?;
+    assert_eq!(rt; found.as_str(), "HR16 at spell 1");
+    Ok(())
 }
 
 // A history whose default is the part so many times.
