@@ -1,4 +1,5 @@
 pub mod ElementLemmas
 pub mod FilterLemmas
+pub mod FirstLemmas
 pub mod NameLemmas
 pub mod OrderLemmas

@@ -6,8 +6,6 @@ mod memory;
 mod name_map;
 mod names;
 mod sequence;
-#[cfg(test)]
-mod tests;
 
 pub use memory::Memory;
 pub use name_map::{NameMap, put, value_of};

@@ -40,16 +40,6 @@ impl<T> Sequence<T> {
             None => &[],
         }
     }
-
-    /// The items, in order, given up.
-    pub fn into_vec(self, alloc: Global) -> Vec<T>
-        ensures { result.items ≡ self }
-    {
-        match self.items {
-            Some(items) => items,
-            None => Vec::new(alloc),
-        }
-    }
 }
 
 impl<T: Drop> Sequence<T> {

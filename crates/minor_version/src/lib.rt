@@ -4,12 +4,10 @@
 mod blob;
 mod decimal;
 mod minor;
-#[cfg(test)]
-mod tests;
 mod text;
 
 pub use basis::Memory;
 pub use blob::Blob;
 pub use decimal::small_number;
 pub use minor::{BadMinor, Minor, floor, from_number, parse, parse_plain};
-pub use text::{Text, TextFault};
+pub use text::{Text, TextFault, text_is_utf8};

@@ -99,6 +99,13 @@ impl Text {
     }
 }
 
+/// The bytes of a text are UTF-8 (RFC 3629).
+pub fn text_is_utf8(text: &Text)
+    ensures { IsUtf8 text.now }
+{
+    let _text = text.text.as_str();
+}
+
 impl PartialEq for Text {
     ghost use Rattle.std.proofs.Common.{rules};
     ghost use Rattle.std.specs.Cmp.Rules.{comparing};
