@@ -1,2 +1,4 @@
 pub mod Stages
 pub mod Gates
+pub mod Same
+pub mod Laws

@@ -1,5 +1,5 @@
 ghost use Rattle.std.specs.Prelude.{◌≡◌, ◌↔◌, ℕ, ◌<◌, ◌++◌, [], ◌∷◌, List, All, IsTrue};
-ghost use Rattle.gate_spec.specs.Gates.{RisesInDate, cutoff, IsLastDefault, IsSpecAt};
+ghost use Rattle.gate_spec.specs.Gates.{RisesInDate, cutoff, last_default, spec_after, IsLastDefault, IsSpecAt};
 ghost use Rattle.gate_spec.specs.declared.entry.GateEntry.{GateEntry as TheEntry};
 
 use crate::entry::{GateChange, GateEntry, SpecAt};
@@ -8,7 +8,9 @@ use minor_version::Minor;
 impl SpecAt {
     /// What the release knows of a gate after one more entry of it, which is dated after the earlier ones.
     pub fn after(self, entry: &GateEntry, e: Minor) -> SpecAt
-        ensures { (earlier : List TheEntry) → All (λ x. x.name ≡ entry.now.name → x.since < entry.now.since) earlier → IsSpecAt earlier entry.now.name e self → IsSpecAt (earlier ++ entry.now ∷ []) entry.now.name e result }
+        ensures same { result ≡ spec_after self entry.now e }
+        ensures known { (earlier : List TheEntry) → All (λ x. x.name ≡ entry.now.name → x.since < entry.now.since) earlier →
+            IsSpecAt earlier entry.now.name e self → IsSpecAt (earlier ++ entry.now ∷ []) entry.now.name e result }
     {
         if e < entry.since {
             return match self {
@@ -32,7 +34,9 @@ impl SpecAt {
 
     // The default of the newest spec so far.
     fn last_default(self) -> bool
-        ensures { (earlier : List TheEntry) (name : List ℕ) (e : ℕ) → IsSpecAt earlier name e self → IsLastDefault (cutoff earlier e) name result }
+        ensures same { result ≡ last_default self }
+        ensures newest { (earlier : List TheEntry) (name : List ℕ) (e : ℕ) → IsSpecAt earlier name e self →
+            IsLastDefault (cutoff earlier e) name result }
     {
         match self {
             SpecAt::Found { default, .. } => default,

@@ -11,7 +11,7 @@ loop-entry-preserved c =
     elim c.if-eq.branch [
       | then-eq w ↦
           let same : x.name ≡ c.args.name.now = search rules in
-          rw w.spec-is (spec_at_read c.args.entries.now c.loop-entry.entry-index x c.args.name.now c.args.e c.loop-entry.spec w.after-spec.result c.requires c.loop-entry-test.true c.entry-item.is same c.loop-entry.invariant w.after-spec.ensures)
+          rw w.spec-is (spec_at_read c.args.entries.now c.loop-entry.entry-index x c.args.name.now c.args.e c.loop-entry.spec w.after-spec.result c.requires c.loop-entry-test.true c.entry-item.is same c.loop-entry.invariant w.after-spec.ensures.known)
       | else-eq w ↦
           let other : x.name ≡ c.args.name.now → ⊥ = search rules in
           rw w.spec-is (spec_at_passed c.args.entries.now c.loop-entry.entry-index x c.args.name.now c.args.e c.loop-entry.spec c.loop-entry-test.true c.entry-item.is other c.loop-entry.invariant)
