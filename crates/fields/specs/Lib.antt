@@ -2,3 +2,4 @@ pub mod Order
 pub mod Map
 pub mod Table
 pub mod Places
+pub mod Fits

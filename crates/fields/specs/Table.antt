@@ -1,5 +1,6 @@
 -- The rows of a table: how a version of a resource spells its fields, and which rows are lawful.
-use Rattle.std.specs.Prelude.{ℕ, ◌≡◌, ◌≢◌, ◌≤◌, ◌<◌, List, ◌++◌, length, map, codes, All, AllPairs, IfSome}
+use Rattle.std.specs.Prelude.{ℕ, ◌≡◌, ◌≢◌, ◌≤◌, ◌<◌, ℤ, FitsSigned, List, ◌++◌, length, map, codes, All, AllPairs, IfSome}
+use Rattle.std.specs.Int.{w64}
 use Rattle.std.specs.List.{slice_get}
 use Rattle.basis.specs.Names.{BeginsLower, IsLetterOrDigit}
 use Rattle.fields.specs.Order.{Rises}
@@ -42,13 +43,31 @@ pub record AreApart (one other : List (List ℕ)) : Type 0 where
   pub not_through : ¬ LeadsThrough one other
   pub not_within : ¬ LeadsThrough other one
 
--- ---- forms and defaults (HR16)
+-- ---- values
+
+-- a whole number of 64 bits
+abbrev pub IsInt64 : ℤ → Type 0
+IsInt64 z = FitsSigned w64 z
+
+-- what a field can hold: a whole number has 64 bits
+abbrev pub IsValue : FieldValue → Type 0
+IsValue (Bool b) = Unit {0}
+IsValue (Int z) = IsInt64 z
+IsValue (Text t) = Unit {0}
+IsValue (Texts ts) = Unit {0}
 
 abbrev pub type_of : FieldValue → FieldType
 type_of (Bool b) = BoolType
 type_of (Int z) = IntType
 type_of (Text t) = TextType
 type_of (Texts ts) = ListType
+
+-- a field of the type can hold the value
+pub record IsValueOf (ty : FieldType) (value : FieldValue) : Type 0 where
+  pub typed : type_of value ≡ ty
+  pub whole : IsValue value
+
+-- ---- forms and defaults (HR16)
 
 -- a value of the type can be written in the form
 abbrev pub IsFormOf : FieldType → Form → Type 0
@@ -66,6 +85,7 @@ IsShort (Texts ts) = Unit {0}
 -- a field of the type may have this default
 pub record IsDefaultOf (ty : FieldType) (value : FieldValue) : Type 0 where
   pub typed : type_of value ≡ ty
+  pub whole : IsValue value
   pub not_list : ty ≢ ListType
   pub short : IsShort value
 

@@ -1,5 +1,5 @@
 ghost use Rattle.std.specs.Prelude.{◌≡◌, ◌↔◌, IsTrue, IfOk};
-ghost use Rattle.fields.specs.Table.{type_of};
+ghost use Rattle.fields.specs.Table.{type_of, IsValue};
 
 use basis::{Memory, Sequence};
 use minor_version::Text;
@@ -41,11 +41,15 @@ pub fn copy_of_texts(alloc: Global, texts: &[Text]) -> Result<TextList, Memory>
 impl FieldValue {
     /// The type of the value.
     pub fn ty(&self) -> FieldType
-        ensures { result ≡ type_of self.now }
+        ensures ty { result ≡ type_of self.now }
+        ensures value { IsValue self.now }
     {
         match self {
             FieldValue::Bool(_) => FieldType::Bool,
-            FieldValue::Int(_) => FieldType::Int,
+            FieldValue::Int(number) => {
+                let _number = *number;
+                FieldType::Int
+            }
             FieldValue::Text(_) => FieldType::Text,
             FieldValue::List(_) => FieldType::TextList,
         }

@@ -1,7 +1,7 @@
 -- What the tables of a view keep of fields.
 use Rattle.std.specs.Prelude.{◌≡◌, List, All, Contains}
 use Rattle.fields.specs.Table.{AreLawful}
-use Rattle.schemas.specs.Rows.{AreOfSameFields}
+use Rattle.fields.specs.Fits.{AreOfSameFields}
 use Rattle.release_view.specs.declared.known.KnownVersion.{KnownVersion}
 
 abbrev pub HaveLawfulTables : List KnownVersion → Type 0

@@ -1,7 +1,9 @@
 -- The rules on fields and spellings hold where their denial doesn't.
-use Rattle.std.proofs.Common.{ℕ, ◌≡◌, ◌≤◌, List, true, false, Option, Some, None, length, max, refl, inl, inr, ◌⊎◌, arith}
+use Rattle.std.proofs.Common.{ℕ, ℤ, pos, negsuc, ◌≡◌, ◌≤◌, ◌<◌, ◌^◌, List, true, false, Option, Some, None, length, max, refl, inl, inr, ◌⊎◌, arith}
 use Rattle.std.specs.Prelude.{slice_get, filter, All, Any, IfSome, IsNone}
 use Rattle.std.specs.Str.{bytes_eq}
+use Rattle.std.proofs.lemmas.Bool.{cases_lt}
+use Rattle.std.proofs.lemmas.Int.{ints}
 use Rattle.std.proofs.lemmas.Slice.Eq.{bytes_eq-Decides}
 use Rattle.fields.specs.declared.field.Field.{Field}
 use Rattle.fields.specs.declared.field.Form.{Form}
@@ -17,7 +19,7 @@ use Rattle.lifecycle.specs.declared.entry.ApiEntry.{ApiEntry}
 use Rattle.schemas.proofs.DecisionLemmas.{any_decided, decided, both, at_most_decided, introduction_decided, forgotten_decided, IsStable, stable_decided, stable_not, stable_to, stable_all, stable_holds, stable_less, stable_at_most, stable_bool}
 use Rattle.schemas.specs.FieldRules.{is_of_resource, AreOneField, BelongsToResource, IsAlwaysThere, begins_at}
 use Rattle.schemas.specs.Pairs.{IntroducesVersionOf, IsPair, IsOfField, IsOfVersion, IsSpelling, SpellsPair, AreForOneVersion, AreOfOnePair}
-use Rattle.fields.specs.Table.{AreApart, IsFree, IsFormOf, IsShort, IsDefaultOf, type_of}
+use Rattle.fields.specs.Table.{AreApart, IsFree, IsFormOf, IsShort, IsDefaultOf, IsInt64, IsValue, type_of}
 use Rattle.schemas.specs.SpellRules.{SpellsPairOnce, HasOwnPath, FitsType}
 
 same_text : (a b : List ℕ) → (a ≡ b) ⊎ ¬ (a ≡ b)
@@ -141,10 +143,27 @@ short_stable (AnInt n) = stable_holds
 short_stable (AText t) = stable_at_most (length t) 1024
 short_stable (AList l) = stable_holds
 
+whole_stable : (z : ℤ) → IsStable (IsInt64 z)
+whole_stable (pos n) h = elim (cases_lt n (2 ^ 63)) [
+  | inl below ↦ omega (arith, ints)
+  | inr above ↦ absurd (h (λ fits. omega (arith, ints)))
+]
+whole_stable (negsuc n) h = elim (cases_lt n (2 ^ 63)) [
+  | inl below ↦ omega (arith, ints)
+  | inr above ↦ absurd (h (λ fits. omega (arith, ints)))
+]
+
+value_stable : (value : FieldValue) → IsStable (IsValue value)
+value_stable (ABool b) = stable_holds
+value_stable (AnInt n) = whole_stable n
+value_stable (AText t) = stable_holds
+value_stable (AList l) = stable_holds
+
 default_stable : (ty : FieldType) (default : Option FieldValue) → IsStable (IfSome default (IsDefaultOf ty))
 default_stable ty None = stable_holds
 default_stable ty (Some value) = λ h. record {
   typed = type_stable (type_of value) ty (λ fails. h (λ (k : IsDefaultOf ty value). fails k.typed));
+  whole = value_stable value (λ fails. h (λ (k : IsDefaultOf ty value). fails k.whole));
   not_list = stable_not (λ fails. h (λ (k : IsDefaultOf ty value). fails k.not_list));
   short = short_stable value (λ fails. h (λ (k : IsDefaultOf ty value). fails k.short));
 }

@@ -1,5 +1,6 @@
 -- What follows from the rules, for those who build on accepted histories.
 use Rattle.std.specs.Prelude.{ℕ, ◌≡◌, ◌↔◌, ◌+◌, ◌<◌, ◌≤◌, true, List, Some, Any, slice_get}
+use Rattle.fields.specs.Fits.{AreOfSameFields}
 use Rattle.fields.specs.Table.{AreApart, AreLawful}
 use Rattle.fields.specs.declared.field.Field.{Field}
 use Rattle.fields.specs.declared.field.Spell.{Spell}
@@ -15,7 +16,7 @@ use Rattle.schemas.specs.Cutoff.{fields_by, spells_by}
 use Rattle.schemas.specs.FieldRules.{IsSpelledThroughout}
 use Rattle.schemas.specs.Pairs.{IsSpelling, AreForOneVersion}
 use Rattle.schemas.specs.Places.{Each}
-use Rattle.schemas.specs.Rows.{SpellFields, AreOfSameFields}
+use Rattle.schemas.specs.Rows.{SpellFields}
 use Rattle.schemas.specs.SpellRules.{SpellsPairOnce}
 use Rattle.schemas.specs.Rules.{IsAccepted, IsUnbroken, checks, IsFirstFault}
 

@@ -1,5 +1,5 @@
 -- The rows of a version's table: a row for each field of its resource, as the version spells it.
-use Rattle.std.specs.Prelude.{◌≡◌, ◌↔◌, ℕ, List, map, All, Any, Contains, IfSome, IsTrue}
+use Rattle.std.specs.Prelude.{◌≡◌, ◌↔◌, ℕ, List, All, Any, Contains, IfSome, IsTrue}
 use Rattle.fields.specs.Table.{IdsRise}
 use Rattle.fields.specs.declared.field.Field.{Field}
 use Rattle.fields.specs.declared.field.Spell.{Spell}
@@ -25,11 +25,6 @@ pub record SpellFields (fields : List Field) (spells : List Spell) (name : Group
   pub order : IdsRise rows
   pub each : All (IsSpelledRow fields spells name) rows
   pub whole : (f : Field) (s : Spell) → Contains fields f → Contains spells s → IsSpelling f name s → Any (λ row. row.id ≡ f.id) rows
-
--- the rows are of the same fields
-pub record AreOfSameFields (rows others : List FieldRow) : Type 0 where
-  pub ids : map (λ row. row.id) rows ≡ map (λ row. row.id) others
-  pub types : map (λ row. row.ty) rows ≡ map (λ row. row.ty) others
 
 -- the same, where the row is on if no gate guards the field, or the gate is on
 abbrev pub IsRow : (List ℕ → Type 0) → List Field → List Spell → GroupVersionResource → FieldRow → Type 0
