@@ -35,7 +35,7 @@ rises_cut entries o up = AllPairs-filter (λ x y. x.name ≡ y.name → x.since 
 Any-map : {X : Type 0} (P Q : X → Type 0) (xs : List X) → ((x : X) → P x → Q x) → Any P xs → Any Q xs
 Any-map P Q xs f h = (h.0, h.1, h.2, h.3, f h.1 h.4)
 
-gate_or_none : (xs : List GateEntry) (name : List ℕ) → HasGate xs name ⊎ (HasGate xs name → ⊥)
+pub gate_or_none : (xs : List GateEntry) (name : List ℕ) → HasGate xs name ⊎ (HasGate xs name → ⊥)
 gate_or_none xs name = elim (cases_Bool (list_any (λ x. bytes_eq x.name name) xs)) [
   | inl some ↦
       inl (Any-map (λ x. bytes_eq x.name name ≡ true) (λ x. x.name ≡ name) xs (λ x h. (bytes_eq-Decides x.name name).0 h)
@@ -45,7 +45,7 @@ gate_or_none xs name = elim (cases_Bool (list_any (λ x. bytes_eq x.name name) x
       (Any-map (λ x. x.name ≡ name) (λ x. bytes_eq x.name name ≡ true) xs (λ x h. (bytes_eq-Decides x.name name).1 h) h)))
 ]
 
-same_facts : {X : Type 0} (P : X → Type 0) (x y : X) → x ≡ y → P x ↔ P y
+pub same_facts : {X : Type 0} (P : X → Type 0) (x y : X) → x ≡ y → P x ↔ P y
 same_facts P x y same = (subst P same, subst P (sym same))
 
 known_cut : (entries : List GateEntry) (name : List ℕ) (o e : ℕ) → cutoff (cutoff entries o) e ≡ cutoff entries e → IsKnownAlike entries (cutoff entries o) name e

@@ -7,7 +7,6 @@ use Rattle.std.specs.Str.{bytes_eq}
 use Rattle.std.proofs.lemmas.Bool.{cases_Bool, cond-true, cond-false, and_parts, and_from, leb-true, le-leb, false≢true, not-true, not_from_false, false_from_ne_true, both_ways}
 use Rattle.std.proofs.lemmas.List.Folds.{Any-from_list_any, list_any-from_Any}
 use Rattle.std.proofs.lemmas.Slice.Eq.{bytes_eq-Decides}
-use Rattle.basis.proofs.FilterLemmas.{filter_twice}
 use Rattle.lifecycle.specs.Entry.{GroupVersionResource, subject, IsKnownOf, IsIntroduction, IsRemoval, IsIntroduced, IsRemoved, IsLive}
 use Rattle.lifecycle.specs.Tables.{cutoff, is_of, is_introduction, is_deprecation, is_removal, first_change, has_change, live, deprecation_of, warning}
 use Rattle.lifecycle.specs.declared.entry.ApiEntry.{ApiEntry}
@@ -22,7 +21,7 @@ find-filter p q (x ∷ xs) = elim (cases_Bool (q x)) [
   | inr fails ↦ rw fails (find-filter p q xs)
 ]
 
-is_some-find : {X : Type 0} (p : X → Bool) (xs : List X) → is_some (find p xs) ≡ list_any p xs
+pub is_some-find : {X : Type 0} (p : X → Bool) (xs : List X) → is_some (find p xs) ≡ list_any p xs
 is_some-find p [] = refl
 is_some-find p (x ∷ xs) = elim (cases_Bool (p x)) [
   | inl passes ↦ rw passes refl
@@ -126,6 +125,3 @@ live_dated entries name e = (
       and_from (has_change is_introduction (cutoff entries e) name) (not (has_change is_removal (cutoff entries e) name)) ((introduced_dated entries name e).1 h.0)
       (not_from_false _ (false_from_ne_true _ (λ r. h.1 ((removed_dated entries name e).0 r)))),
 )
-
-pub cut_tables : (entries cut : List ApiEntry) (e : ℕ) → cut ≡ cutoff entries e → cutoff entries e ≡ cutoff cut e
-cut_tables entries cut e is = sym (ap (λ xs. cutoff xs e) is ∙ filter_twice _ entries)

@@ -4,5 +4,6 @@ pub mod Stability
 pub mod Entry
 pub mod Tables
 pub mod Warnings
+pub mod Same
 pub mod Laws
 pub mod Names
