@@ -3,3 +3,4 @@ pub mod PassLemmas
 pub mod RowLemmas
 pub mod SearchLemmas
 pub mod CutLemmas
+pub mod EitherLemmas

@@ -4,7 +4,7 @@ use Rattle.gate_spec.specs.declared.entry.GateEntry.{GateEntry}
 use Rattle.gate_spec.specs.declared.entry.Stage.{Stage}
 use Rattle.gate_spec.specs.declared.entry.SpecAt.TheVariants.{Found, Removed, Never, PreAlpha as ComesLater}
 use Rattle.gate_spec.specs.Gates.{cutoff, IsFoundIn, IsSpecAt}
-use Rattle.flag_text.specs.Passes.{IsFirst}
+use Rattle.flag_text.specs.Passes.{StopsAt}
 use Rattle.flag_text.specs.Pieces.{FlagPiece, pieces, last_pieces}
 use Rattle.flag_text.specs.Said.{said}
 use Rattle.flag_text.specs.declared.vocabulary.Vocabulary.TheVariants.{Go}
@@ -48,12 +48,12 @@ IsRefused entries e p _ = ⊥
 
 -- the first pass: over all pieces, each by itself
 abbrev pub IsFirstPassFault : List FlagPiece → GateFault → Type 0
-IsFirstPassFault ps (At place cause) = IsFirst IsAssignment (λ p. HasFault p cause) ps place
+IsFirstPassFault ps (At place cause) = StopsAt IsAssignment (λ p. HasFault p cause) ps place
 IsFirstPassFault ps Memory = ⊥
 
 -- the second pass: over the last piece of each name, by the history and the release
 abbrev pub IsSecondPassFault : List GateEntry → ℕ → List FlagPiece → GateFault → Type 0
-IsSecondPassFault entries e last (At place cause) = IsFirst (IsAccepted (cutoff entries e)) (λ p. IsRefused entries e p cause) last place
+IsSecondPassFault entries e last (At place cause) = StopsAt (IsAccepted (cutoff entries e)) (λ p. IsRefused entries e p cause) last place
 IsSecondPassFault entries e last Memory = ⊥
 
 -- the fault of a text: the first of the first pass, or else the first of the second; want of memory is free

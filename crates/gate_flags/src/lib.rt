@@ -14,5 +14,5 @@ mod values;
 
 pub use fault::{GateCause, GateFault};
 pub use flags::gate_values;
-pub use law::{emulation_of_gates, text_has_one_answer};
+pub use law::{emulation_of_gates, text_has_one_answer, texts_by_same_gates};
 pub use values::{GateRow, GateValues, RemovedGate};

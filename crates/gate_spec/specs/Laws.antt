@@ -15,6 +15,6 @@ pub record IsKnownAlike (entries cut : List GateEntry) (name : List ℕ) (e : �
   pub never : IsSpecAt cut name e Never ↔
       ((IsSpecAt entries name e PreAlpha ⊎ IsSpecAt entries name e Never) × ¬ HasGate cut name)
 
--- a release knows one thing of a gate
+-- a release knows exactly one thing of a gate
 abbrev pub HasOneSpec : List GateEntry → List ℕ → ℕ → Type 0
-HasOneSpec entries name e = (a b : SpecAt) → IsSpecAt entries name e a → IsSpecAt entries name e b → a ≡ b
+HasOneSpec entries name e = (a : SpecAt) × IsSpecAt entries name e a × ((b : SpecAt) → IsSpecAt entries name e b → b ≡ a)

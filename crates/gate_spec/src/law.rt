@@ -15,8 +15,8 @@ pub fn emulation_of_specs(entries: &[GateEntry], cut: &[GateEntry], name: &[u8],
     ensures known { (e : ℕ) → e ≤ o → IsKnownAlike entries.now cut.now name.now e }
 {}
 
-/// Where the entries of one gate rise in date, a release knows one thing of it. Nothing is computed here; the law is the
-/// contract.
+/// Where the entries of one gate rise in date, a release knows exactly one thing of it. Nothing is computed here; the law
+/// is the contract.
 pub fn gate_has_one_spec(entries: &[GateEntry], name: &[u8], e: Minor)
     requires { RisesInDate entries.now }
     ensures { HasOneSpec entries.now name.now e }

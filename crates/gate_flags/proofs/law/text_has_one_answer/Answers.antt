@@ -11,6 +11,8 @@ use Rattle.gate_flags.specs.declared.fault.GateCause.{GateCause}
 use Rattle.gate_flags.specs.declared.fault.GateCause.TheVariants.{Missing, BadBool, Unknown, PreAlpha, Locked}
 use Rattle.gate_flags.specs.declared.fault.GateFault.TheVariants.{Memory, At}
 use Rattle.flag_text.proofs.PassLemmas.{first_refutes, one_at}
+use Rattle.gate_flags.proofs.CutLemmas.{values_one}
+use Rattle.gate_flags.proofs.EitherLemmas.{valid_or_faulty}
 use Rattle.gate_flags.proofs.PassLemmas.{fault_refutes, refusal_refutes, fault_refuses}
 use Rattle.gate_flags.proofs.law.text_has_one_answer.Goals as goal
 
@@ -64,6 +66,8 @@ either entries e text up valid (At place cause) h = absurd (fault_refuses entrie
 
 pub returns : goal.returns
 returns c = record {
+  one_set = values_one (cutoff c.args.entries.now c.args.e) (pieces c.args.text.now);
   one_fault = one_fault c.args.entries.now c.args.e c.args.text.now c.requires;
   either = either c.args.entries.now c.args.e c.args.text.now c.requires;
+  some = valid_or_faulty c.args.entries.now c.args.e c.args.text.now c.requires;
 }
