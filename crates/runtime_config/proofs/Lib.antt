@@ -3,3 +3,5 @@ pub mod KeyLemmas
 pub mod StandingLemmas
 pub mod RefusalLemmas
 pub mod ServedLemmas
+pub mod CutLemmas
+pub mod EitherLemmas

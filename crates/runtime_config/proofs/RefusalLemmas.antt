@@ -97,7 +97,7 @@ taken_by entries e p (Some Later) h = tt
 both_ways : {b : Bool} → b ≡ true → b ≡ false → ⊥
 both_ways on off = false≢true (sym off ∙ on)
 
-any_weaker : {X : Type 0} (p q : X → Bool) (xs : List X) → ((x : X) → p x ≡ true → q x ≡ true) → list_any p xs ≡ true → list_any q xs ≡ true
+pub any_weaker : {X : Type 0} (p q : X → Bool) (xs : List X) → ((x : X) → p x ≡ true → q x ≡ true) → list_any p xs ≡ true → list_any q xs ≡ true
 any_weaker p q [] f h = h
 any_weaker p q (x ∷ xs) f h = elim (or_cases (p x) (list_any p xs) h) [
   | inl here ↦ or_left (q x) (list_any q xs) (f x here)
@@ -105,7 +105,7 @@ any_weaker p q (x ∷ xs) f h = elim (or_cases (p x) (list_any p xs) h) [
 ]
 
 -- a key that names something live names something
-live_is_named : (entries : List ApiEntry) (e : ℕ) (key : List ℕ) → names_live key (cutoff entries e) ≡ true → names_some key entries ≡ true
+pub live_is_named : (entries : List ApiEntry) (e : ℕ) (key : List ℕ) → names_live key (cutoff entries e) ≡ true → names_some key entries ≡ true
 live_is_named entries e key h =
     any_weaker (λ x. nat_le x.since e && (names key (subject x) && live (cutoff entries e) (subject x))) (λ x. names key (subject x)) entries
     (λ x both. (and_parts (names key (subject x)) (live (cutoff entries e) (subject x)) (and_parts (nat_le x.since e) (names key (subject x) && live (cutoff entries e) (subject x)) both).1).0) (sym (live_is entries e key) ∙ h)

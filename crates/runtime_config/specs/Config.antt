@@ -4,7 +4,7 @@ use Rattle.std.specs.List.{list_any}
 use Rattle.std.specs.Option.{option_map_or}
 use Rattle.flag_text.specs.Pieces.{FlagPiece, pieces, last_pieces}
 use Rattle.flag_text.specs.Said.{said, last_said}
-use Rattle.flag_text.specs.Passes.{IsFirst}
+use Rattle.flag_text.specs.Passes.{StopsAt}
 use Rattle.flag_text.specs.declared.vocabulary.Vocabulary.TheVariants.{Plain}
 use Rattle.lifecycle.specs.Entry.{GroupVersionResource, subject}
 use Rattle.lifecycle.specs.Tables.{cutoff, is_introduction, first_change, live}
@@ -81,13 +81,13 @@ IsRefused entries e p _ = ⊥
 
 -- the first pass: over all pieces, each by itself
 abbrev pub IsFirstPassFault : List FlagPiece → ConfigFault → Type 0
-IsFirstPassFault ps (At place cause) = IsFirst IsPair (λ p. HasFault p cause) ps place
+IsFirstPassFault ps (At place cause) = StopsAt IsPair (λ p. HasFault p cause) ps place
 IsFirstPassFault ps OnlyAllFalse = ⊥
 IsFirstPassFault ps Memory = ⊥
 
 -- the second pass: over the last piece of each key, by the history and the release
 abbrev pub IsSecondPassFault : List ApiEntry → ℕ → List FlagPiece → ConfigFault → Type 0
-IsSecondPassFault entries e last (At place cause) = IsFirst (λ p. IsTakenKey (cutoff entries e) p.name) (λ p. IsRefused entries e p cause) last place
+IsSecondPassFault entries e last (At place cause) = StopsAt (λ p. IsTakenKey (cutoff entries e) p.name) (λ p. IsRefused entries e p cause) last place
 IsSecondPassFault entries e last OnlyAllFalse = ⊥
 IsSecondPassFault entries e last Memory = ⊥
 

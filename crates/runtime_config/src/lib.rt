@@ -15,4 +15,4 @@ mod tests;
 pub use config::enabled_at;
 pub use enabled::Enabled;
 pub use fault::{ConfigCause, ConfigFault};
-pub use law::{config_has_one_answer, emulation_of_config};
+pub use law::{config_has_one_answer, emulation_of_config, texts_by_same_versions};

@@ -1,7 +1,7 @@
 use Rattle.std.proofs.Common.{◌≡◌, ℕ, List, [], ◌∷◌, All, Option, Some, None, IsSome, inl, inr, refl, sym, ◌∙◌, ap, subst}
 use Rattle.std.proofs.lemmas.Bool.{false≢true}
 use Rattle.std.proofs.lemmas.List.Elements.{All-from_recursion}
-use Rattle.flag_text.specs.Passes.{IsFirst}
+use Rattle.flag_text.specs.Passes.{StopsAt}
 use Rattle.flag_text.specs.Pieces.{FlagPiece, pieces, last_pieces}
 use Rattle.flag_text.proofs.PassLemmas.{first_refutes, one_at}
 use Rattle.lifecycle.specs.Tables.{cutoff}
@@ -13,6 +13,7 @@ use Rattle.runtime_config.specs.Served.{by_name}
 use Rattle.runtime_config.specs.declared.fault.ConfigCause.{ConfigCause}
 use Rattle.runtime_config.specs.declared.fault.ConfigCause.TheVariants.{BadPair, BadBool, UnknownApi, AfterEmulated, RemovedApi}
 use Rattle.runtime_config.specs.declared.fault.ConfigFault.TheVariants.{Memory, At, OnlyAllFalse}
+use Rattle.runtime_config.proofs.EitherLemmas.{valid_or_faulty}
 use Rattle.runtime_config.proofs.NameLemmas.{by_name_total}
 use Rattle.basis.proofs.OrderLemmas.{one_in_order}
 use Rattle.runtime_config.proofs.RefusalLemmas.{fault_refutes, refusal_refutes, fault_refuses, introduced_is_named}
@@ -60,10 +61,10 @@ module _ (entries : List ApiEntry) (e : ℕ) (text : List ℕ) where
   abbrev Taken : FlagPiece → Type 0
   Taken p = IsTakenKey (cutoff entries e) p.name
 
-  no_first : (m : ℕ) (c : ConfigCause) → IsFirst IsPair (λ p. HasFault p c) (pieces text) m → All IsPair (pieces text) → ⊥
+  no_first : (m : ℕ) (c : ConfigCause) → StopsAt IsPair (λ p. HasFault p c) (pieces text) m → All IsPair (pieces text) → ⊥
   no_first m c h all = first_refutes IsPair (λ p. HasFault p c) (pieces text) m (λ p. fault_refutes p c) h all
 
-  no_second : (m : ℕ) (c : ConfigCause) → IsFirst Taken (λ p. IsRefused entries e p c) (last_pieces (pieces text)) m → All Taken (last_pieces (pieces text)) → ⊥
+  no_second : (m : ℕ) (c : ConfigCause) → StopsAt Taken (λ p. IsRefused entries e p c) (last_pieces (pieces text)) m → All Taken (last_pieces (pieces text)) → ⊥
   no_second m c h all = first_refutes Taken (λ p. IsRefused entries e p c) (last_pieces (pieces text)) m (λ p. refusal_refutes entries e p c) h all
 
   -- every release takes the key `api/all`
@@ -94,4 +95,5 @@ returns c = record {
   one_set = one_set c.args.entries.now c.args.e c.args.text.now;
   one_fault = one_fault c.args.entries.now c.args.e c.args.text.now;
   either = either c.args.entries.now c.args.e c.args.text.now;
+  some = valid_or_faulty c.args.entries.now c.args.e c.args.text.now;
 }
