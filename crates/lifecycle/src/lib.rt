@@ -4,8 +4,6 @@
 mod entry;
 mod law;
 mod tables;
-#[cfg(test)]
-mod tests;
 mod version;
 
 pub use entry::{ApiChange, ApiEntry, ApiName};

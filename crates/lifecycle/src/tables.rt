@@ -1,12 +1,12 @@
 //! What a release knows of a version, found by going over the entries.
-ghost use Rattle.std.specs.Prelude.{◌≡◌, ◌↔◌, ◌&&◌, IsTrue, nat_le, find, option_copied, option_map};
+ghost use Rattle.std.specs.Prelude.{◌≡◌, ◌↔◌, ◌&&◌, IsTrue, IfSome, IsUtf8, nat_le, find, option_copied, option_map};
 ghost use Rattle.std.specs.List.{list_any};
 ghost use Rattle.lifecycle.specs.Entry.{named, IsLive};
 ghost use Rattle.lifecycle.specs.Tables.{cutoff, is_of, is_introduction, is_deprecation, is_removal, is_forgetting, has_change, first_change, live, decodable, deprecation_of, warning};
 ghost use Rattle.lifecycle.specs.Warnings.{told};
 
 use crate::entry::{ApiChange, ApiEntry, ApiName};
-use minor_version::Minor;
+use minor_version::{Minor, text_is_utf8};
 
 /// What a client is told that uses a deprecated version.
 #[derive(Clone, Copy, Debug)]
@@ -15,7 +15,7 @@ pub struct Warning<'a> {
     pub since: Minor,
     /// The release for which its removal is planned.
     pub removal: Minor,
-    /// The version of the same resource to use in its place.
+    /// The version of the same resource to use in its place, a text.
     pub replacement: &'a [u8],
 }
 
@@ -52,17 +52,21 @@ impl ApiChange {
 impl ApiEntry {
     /// What a client is told of the deprecation, where the entry is one.
     pub fn warning(&self) -> Option<Warning<'_>>
-        ensures { option_map told result ≡ deprecation_of self.now.since self.now.change }
+        ensures told { option_map told result ≡ deprecation_of self.now.since self.now.change }
+        ensures text { IfSome result (λ w. IsUtf8 w.replacement.now) }
     {
         match &self.change {
             ApiChange::Deprecated {
                 removal,
                 replacement,
-            } => Some(Warning {
-                since: self.since,
-                removal: *removal,
-                replacement: replacement.bytes(),
-            }),
+            } => {
+                text_is_utf8(replacement);
+                Some(Warning {
+                    since: self.since,
+                    removal: *removal,
+                    replacement: replacement.bytes(),
+                })
+            }
             _ => None,
         }
     }
@@ -118,7 +122,8 @@ pub fn decodable_at(entries: &[ApiEntry], name: ApiName<'_>, e: Minor) -> bool
 /// What a client is told that uses the version at the release: where the version is live and a deprecation of it is
 /// dated at or before the release. Of several the first in the list counts.
 pub fn warning_at<'a>(entries: &'a [ApiEntry], name: ApiName<'_>, e: Minor) -> Option<Warning<'a>>
-    ensures { option_map told result ≡ warning (cutoff entries.now e) (named name.entry) }
+    ensures told { option_map told result ≡ warning (cutoff entries.now e) (named name.entry) }
+    ensures text { IfSome result (λ w. IsUtf8 w.replacement.now) }
 {
     if !live_at(entries, name, e) {
         return None;

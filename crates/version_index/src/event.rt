@@ -1,8 +1,7 @@
 //! The first changes of each kind, by version.
-ghost use Rattle.std.specs.Prelude.{◌≡◌, IfOk, OnOk, ◌++◌, ◌∷◌, []};
+ghost use Rattle.std.specs.Prelude.{◌≡◌, IfOk, OnOk, List, ◌++◌, ◌∷◌, []};
 ghost use Rattle.lifecycle.specs.Tables.{cutoff};
 ghost use Rattle.lifecycle.specs.declared.entry.ApiEntry.{ApiEntry as TheEntry};
-ghost use Rattle.std.specs.Prelude.{List};
 ghost use Rattle.version_index.specs.Events.{is_event, HasFirstChanges};
 
 use basis::{Memory, NameMap, put, value_of};
@@ -38,7 +37,10 @@ impl Event {
         map: &mut NameMap<'a, &'a ApiEntry>,
         entry: &'a ApiEntry,
     ) -> Result<(), Memory>
-        ensures { OnOk result ((tables : List TheEntry) → HasFirstChanges self tables map.old → HasFirstChanges self (tables ++ entry.now ∷ []) map.new) }
+        ensures { OnOk result (
+            (tables : List TheEntry) → HasFirstChanges self tables map.old →
+            HasFirstChanges self (tables ++ entry.now ∷ []) map.new
+            ) }
     {
         let group = entry.group.bytes();
         let version = entry.version.bytes();
@@ -63,10 +65,7 @@ impl Event {
             if entry.since > e {
                 continue;
             }
-            match self.take_in(&mut map, entry) {
-                Ok(()) => {}
-                Err(Memory) => return Err(Memory),
-            }
+            self.take_in(&mut map, entry)?;
         }
         Ok(map)
     }

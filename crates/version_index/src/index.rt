@@ -30,7 +30,7 @@ impl<'a> Model for VersionIndex<'a> {
 }
 
 impl<'a> VersionIndex<'a> {
-    ghost use Rattle.std.specs.Prelude.{◌≡◌, IfOk, option_copied, option_map};
+    ghost use Rattle.std.specs.Prelude.{◌≡◌, IfOk, IfSome, IsUtf8, option_copied, option_map};
     ghost use Rattle.lifecycle.specs.Entry.{named};
     ghost use Rattle.lifecycle.specs.Tables.{cutoff, is_introduction, first_change, live, decodable, warning};
     ghost use Rattle.lifecycle.specs.Warnings.{told};
@@ -39,18 +39,10 @@ impl<'a> VersionIndex<'a> {
     pub fn at(alloc: Global, entries: &'a [ApiEntry], e: Minor) -> Result<Self, Memory>
         ensures { IfOk result (λ index. index ≡ cutoff entries.now e) }
     {
-        let Ok(introductions) = Event::Introduction.first_changes(alloc, entries, e) else {
-            return Err(Memory);
-        };
-        let Ok(deprecations) = Event::Deprecation.first_changes(alloc, entries, e) else {
-            return Err(Memory);
-        };
-        let Ok(removals) = Event::Removal.first_changes(alloc, entries, e) else {
-            return Err(Memory);
-        };
-        let Ok(forgettings) = Event::Forgetting.first_changes(alloc, entries, e) else {
-            return Err(Memory);
-        };
+        let introductions = Event::Introduction.first_changes(alloc, entries, e)?;
+        let deprecations = Event::Deprecation.first_changes(alloc, entries, e)?;
+        let removals = Event::Removal.first_changes(alloc, entries, e)?;
+        let forgettings = Event::Forgetting.first_changes(alloc, entries, e)?;
         Ok(VersionIndex {
             entries,
             e,
@@ -86,7 +78,8 @@ impl<'a> VersionIndex<'a> {
 
     /// What a client is told that uses the version: its first deprecation, while it is live.
     pub fn warning(&self, name: ApiName<'a>) -> Option<Warning<'a>>
-        ensures { option_map told result ≡ warning self.now (named name.entry) }
+        ensures told { option_map told result ≡ warning self.now (named name.entry) }
+        ensures text { IfSome result (λ w. IsUtf8 w.replacement.now) }
     {
         if !self.is_live(name) {
             return None;

@@ -3,7 +3,5 @@
 
 mod event;
 mod index;
-#[cfg(test)]
-mod tests;
 
 pub use index::VersionIndex;
