@@ -1,6 +1,8 @@
 pub mod Beside
+pub mod Calls
 pub mod Content
 pub mod Counted
+pub mod Folder
 pub mod ImageLaws
 pub mod Images
 pub mod MemDisk
@@ -8,4 +10,3 @@ pub mod MemLaws
 pub mod Moments
 pub mod Slots
 pub mod Stops
-pub mod Folder

@@ -1,9 +1,10 @@
 //! The real disk. What the machine does with its files no contract can see: here is proved what it counts.
-ghost use Rattle.std.specs.Prelude.{◌≡◌, ◌+◌, ◌<◌, ◌^◌, ◌-◌, ◌≤◌, ◌↔◌, [], length, Ok, IfOk, OnOk, OnErr, IsErr};
+ghost use Rattle.std.specs.Prelude.{◌≡◌, ◌+◌, ◌<◌, ◌^◌, ◌-◌, ◌≤◌, ◌↔◌, [], false, length, ◌⊎◌, Ok, IfOk, OnOk, OnErr, IsErr, IsTrue};
 ghost use Rattle.std.specs.Fs.{metadata_len};
-ghost use Rattle.basis.specs.Counts.{HasCause};
-ghost use Rattle.disk.specs.Counted.{counted};
-ghost use Rattle.disk.specs.Folder.{file_in};
+ghost use Rattle.disk.specs.Beside.{alone};
+ghost use Rattle.disk.specs.Calls.{Spares};
+ghost use Rattle.disk.specs.Counted.{counted, CountsFaults};
+ghost use Rattle.disk.specs.Folder.{file_in, OthersAreSame};
 ghost use Rattle.disk.specs.Images.{resting, end_of_lengths};
 ghost use Rattle.disk.specs.Moments.{Ticks};
 
@@ -21,7 +22,7 @@ use std::{fmt, fs, io};
 /// Why there is no disk at a folder.
 #[derive(Clone, Copy, Debug, PartialEq, Eq)]
 pub enum AtFault {
-    /// The machine answered an error.
+    /// The machine answered an error, or another disk holds the folder.
     Failed,
     /// Memory ran out.
     Memory,
@@ -53,52 +54,18 @@ impl From<io::Error> for AtFault {
     }
 }
 
-#[derive(Drop)]
-struct FileSet<F> {
-    choice: F,
-    left: F,
-    right: F,
+/// A file that is held by one program at a time.
+pub trait LockFile {
+    /// Holds the file until it is dropped. Where another open of it is held, by this program or another, that is an
+    /// error.
+    fn hold(&self) -> io::Result<()>;
 }
 
-impl<F> FileSet<F> {
-    fn get(&mut self, file: File) -> &mut F
-        ensures { result.now ≡ file_in self.old file }
-    {
-        match file {
-            File::Choice => &mut self.choice,
-            File::Left => &mut self.left,
-            File::Right => &mut self.right,
-        }
+impl LockFile for fs::File {
+    fn hold(&self) -> io::Result<()> {
+        self.try_lock()?;
+        Ok(())
     }
-}
-
-/// The files `choice`, `left` and `right` of a folder. It tells nothing, and counts the machine's errors.
-#[derive(Drop)]
-pub struct FileDisk<R: Files> {
-    files: FileSet<R::File>,
-    clock: u64,
-    faults: u64,
-}
-
-// Opens a file of the folder, and makes it empty where it is missing.
-fn open<R: Files>(rt: &R, alloc: Global, folder: &str, name: &str) -> Result<R::File, AtFault> {
-    let Ok(path) = format!(in alloc; "{folder}/{name}") else {
-        return Err(AtFault::Memory);
-    };
-    let file = OpenOptions::new()
-        .read(true)
-        .write(true)
-        .create(true)
-        .open(rt, path.as_str())?;
-    Ok(file)
-}
-
-fn sync_folder<R: Files>(rt: &R, alloc: Global, folder: &str, name: &str) -> Result<(), AtFault> {
-    let Ok(path) = format!(in alloc; "{folder}/{name}") else {
-        return Err(AtFault::Memory);
-    };
-    fs::open(rt, path.as_str())?.sync_all()?;
-    Ok(())
 }
 
 fn too_far() -> io::Error {
@@ -125,7 +92,10 @@ fn length_of<F: OpenFile>(file: &F) -> io::Result<u64>
     length_in(&file.metadata()?)
 }
 
-fn read_from<F: Read + Seek>(file: &mut F, at: u64, into: &mut [u8]) -> io::Result<()> {
+fn read_from<F: Read + Seek + OpenFile>(file: &mut F, at: u64, into: &mut [u8]) -> io::Result<()> {
+    if at > length_of(file)? {
+        return Err(too_far());
+    }
     file.seek(SeekFrom::Start(at))?;
     file.read_exact(into)
 }
@@ -147,38 +117,125 @@ fn cut_at<F: OpenFile>(file: &F, to: u64) -> io::Result<()> {
     file.set_len(to)
 }
 
+#[derive(Drop)]
+struct FileSet<F> {
+    choice: F,
+    left: F,
+    right: F,
+}
+
+impl<F> FileSet<F> {
+    fn get(&self, file: File) -> &F
+        ensures { result.now ≡ file_in self.now file }
+    {
+        match file {
+            File::Choice => &self.choice,
+            File::Left => &self.left,
+            File::Right => &self.right,
+        }
+    }
+}
+
+impl<F: Read + Write + Seek + OpenFile> FileSet<F> {
+    fn read(&mut self, file: File, at: u64, into: &mut [u8]) -> io::Result<()>
+        ensures { OthersAreSame file self.old self.new }
+    {
+        match file {
+            File::Choice => read_from(&mut self.choice, at, into),
+            File::Left => read_from(&mut self.left, at, into),
+            File::Right => read_from(&mut self.right, at, into),
+        }
+    }
+
+    fn write(&mut self, file: File, at: u64, bytes: &[u8]) -> io::Result<()>
+        ensures short { OnOk result (at + length bytes.now < end_of_lengths) }
+        ensures others { OthersAreSame file self.old self.new }
+    {
+        match file {
+            File::Choice => write_to(&mut self.choice, at, bytes),
+            File::Left => write_to(&mut self.left, at, bytes),
+            File::Right => write_to(&mut self.right, at, bytes),
+        }
+    }
+}
+
+// Opens a file of the folder, and makes it empty where it is missing.
+fn open<R: Files>(rt: &R, alloc: Global, folder: &str, name: &str) -> Result<R::File, AtFault> {
+    let Ok(path) = format!(in alloc; "{folder}/{name}") else {
+        return Err(AtFault::Memory);
+    };
+    let file = OpenOptions::new()
+        .read(true)
+        .write(true)
+        .create(true)
+        .open(rt, path.as_str())?;
+    Ok(file)
+}
+
+fn sync_folder<R: Files>(rt: &R, alloc: Global, folder: &str, name: &str) -> Result<(), AtFault> {
+    let Ok(path) = format!(in alloc; "{folder}/{name}") else {
+        return Err(AtFault::Memory);
+    };
+    fs::open(rt, path.as_str())?.sync_all()?;
+    Ok(())
+}
+
+// Makes the folder where it is missing, so that a stop leaves its name. Where that can't be had, a new one is removed.
+fn make_folder<R: Files>(rt: &R, alloc: Global, folder: &str) -> Result<(), AtFault> {
+    let is_new = !fs::exists(rt, folder)?;
+    if is_new {
+        fs::create_dir(rt, folder)?;
+    }
+    match sync_folder(rt, alloc, folder, "..") {
+        // The folder above one that was there may be another's, and closed to this program.
+        Err(AtFault::Failed) if !is_new => Ok(()),
+        Err(fault) if is_new => {
+            let _ = fs::remove_dir(rt, folder);
+            Err(fault)
+        }
+        named => named,
+    }
+}
+
+/// The files `choice`, `left` and `right` of a folder, which it holds: no other disk is at the folder then. It tells
+/// nothing, and counts the machine's errors. Once a sync failed, each later one fails.
+#[derive(Drop)]
+pub struct FileDisk<R: Files> {
+    files: FileSet<R::File>,
+    clock: u64,
+    faults: u64,
+    // The machine may have dropped what wasn't synced, and tell of the next sync that it went well.
+    sync_failed: bool,
+}
+
 impl<R: Files> FileDisk<R> {
     /// The disk of a folder. The files are made where they are missing, and so is the folder, in one that is there.
     pub fn at(rt: &R, alloc: Global, folder: &str) -> Result<Self, AtFault>
-        ensures { IfOk result (λ d. (d.clock ≡ 0) × (d.faults ≡ 0)) }
+    where
+        R::File: LockFile,
+        ensures { IfOk result (λ d. (d.clock ≡ 0) × (d.faults ≡ 0) × (d.sync_failed ≡ false)) }
     {
-        let is_new = !fs::exists(rt, folder)?;
-        if is_new {
-            fs::create_dir(rt, folder)?;
-        }
+        make_folder(rt, alloc, folder)?;
+        let choice = open(rt, alloc, folder, "choice")?;
+        choice.hold()?;
         let files = FileSet {
-            choice: open(rt, alloc, folder, "choice")?,
+            choice,
             left: open(rt, alloc, folder, "left")?,
             right: open(rt, alloc, folder, "right")?,
         };
-        // Only then does a stop leave the names of new files, and that of a new folder.
+        // Only then does a stop leave the names of new files.
         sync_folder(rt, alloc, folder, ".")?;
-        match sync_folder(rt, alloc, folder, "..") {
-            // The folder above one that was there may be another's, and closed to this program.
-            Err(AtFault::Failed) if !is_new => {}
-            named => named?,
-        }
         Ok(FileDisk {
             files,
             clock: 0,
             faults: 0,
+            sync_failed: false,
         })
     }
 
     /// Raises the clock, unless it stands at its greatest value.
     pub fn pass(&mut self)
-        ensures clock { self.new.clock ≡ counted self.old.clock }
-        ensures faults { self.new.faults ≡ self.old.faults }
+        ensures { self.new ≡ record self.old { clock = counted self.old.clock } }
     {
         self.clock = self.clock.saturating_add(1);
     }
@@ -187,10 +244,9 @@ impl<R: Files> FileDisk<R> {
     fn told<T>(&mut self, done: io::Result<T>) -> Result<T, Failed>
         ensures value { IfOk result (λ value. done ≡ Ok value) }
         ensures error { OnErr result (IsErr done) }
-        ensures clock { self.new.clock ≡ self.old.clock }
-        ensures cause { HasCause self.old.faults self.new.faults result }
-        ensures fine { OnOk result (self.new.faults ≡ self.old.faults) }
-        ensures failed { OnErr result (self.new.faults ≡ counted self.old.faults) }
+        ensures same { self.new ≡ record self.old { faults = self.new.faults } }
+        ensures counts { CountsFaults self.old.faults self.new.faults result }
+        ensures spares { Spares (λ _. alone) (λ d. d.faults) self.old self.new (IsErr result) }
     {
         match done {
             Ok(value) => Ok(value),
@@ -203,12 +259,11 @@ impl<R: Files> FileDisk<R> {
 
     // Raises the clock for a call that may change a file.
     fn tick(&mut self) -> Result<(), Failed>
-        ensures ticked { self.new.clock ≡ counted self.old.clock }
+        ensures same { self.new ≡ record self.old { clock = counted self.old.clock; faults = self.new.faults } }
         ensures end { OnErr result (self.old.clock ≡ 2 ^ 64 - 1) }
         ensures clock { Ticks self.old.clock self.new.clock result }
-        ensures cause { HasCause self.old.faults self.new.faults result }
-        ensures fine { OnOk result (self.new.faults ≡ self.old.faults) }
-        ensures failed { OnErr result (self.new.faults ≡ counted self.old.faults) }
+        ensures counts { CountsFaults self.old.faults self.new.faults result }
+        ensures spares { Spares (λ _. alone) (λ d. d.faults) self.old self.new (IsErr result) }
     {
         if self.clock == u64::MAX {
             self.faults = self.faults.saturating_add(1);
@@ -217,11 +272,23 @@ impl<R: Files> FileDisk<R> {
         self.clock += 1;
         Ok(())
     }
+
+    // Syncs a file, unless a sync failed before.
+    fn try_sync(&mut self, file: File) -> io::Result<()>
+        ensures same { self.new ≡ record self.old { sync_failed = self.new.sync_failed } }
+        ensures failed { OnErr result (IsTrue self.new.sync_failed) }
+        ensures fine { OnOk result ((self.old.sync_failed ≡ false) × (self.new.sync_failed ≡ false)) }
+    {
+        if self.sync_failed {
+            return Err(io::Error::from(ErrorKind::Other));
+        }
+        let done = self.files.get(file).sync_data();
+        self.sync_failed = done.is_err();
+        done
+    }
 }
 
 impl<R: Files> Disk for FileDisk<R> {
-    ghost use Rattle.disk.specs.Beside.{alone};
-
     ghost faults = { λ d. d.faults };
 
     ghost clock = { λ d. d.clock };
@@ -243,9 +310,9 @@ impl<R: Files> Disk for FileDisk<R> {
     fn len(&mut self, file: File) -> Result<u64, Failed>
         ensures short { IfOk result (λ n. n < end_of_lengths) }
         ensures clock { self.new.clock ≡ self.old.clock }
-        ensures cause { HasCause self.old.faults self.new.faults result }
-        ensures fine { OnOk result (self.new.faults ≡ self.old.faults) }
-        ensures failed { OnErr result (self.new.faults ≡ counted self.old.faults) }
+        ensures spares { Spares (λ _. alone) (λ d. d.faults) self.old self.new (IsErr result) }
+        ensures counts { CountsFaults self.old.faults self.new.faults result }
+        ensures same { self.new ≡ record self.old { faults = self.new.faults } }
     {
         let len = length_of(self.files.get(file));
         self.told(len)
@@ -253,33 +320,34 @@ impl<R: Files> Disk for FileDisk<R> {
 
     fn read_at(&mut self, file: File, at: u64, into: &mut [u8]) -> Result<(), Failed>
         ensures clock { self.new.clock ≡ self.old.clock }
-        ensures cause { HasCause self.old.faults self.new.faults result }
-        ensures fine { OnOk result (self.new.faults ≡ self.old.faults) }
-        ensures failed { OnErr result (self.new.faults ≡ counted self.old.faults) }
+        ensures spares { Spares (λ _. alone) (λ d. d.faults) self.old self.new (IsErr result) }
+        ensures counts { CountsFaults self.old.faults self.new.faults result }
+        ensures others { OthersAreSame file self.old.files self.new.files }
+        ensures same { self.new ≡ record self.old { files = self.new.files; faults = self.new.faults } }
     {
-        let done = read_from(self.files.get(file), at, into);
+        let done = self.files.read(file, at, into);
         self.told(done)
     }
 
     fn write_at(&mut self, file: File, at: u64, bytes: &[u8]) -> Result<(), Failed>
         ensures short { OnOk result (at + length bytes.now < end_of_lengths) }
         ensures clock { Ticks self.old.clock self.new.clock result }
-        ensures ticked { self.new.clock ≡ counted self.old.clock }
-        ensures cause { HasCause self.old.faults self.new.faults result }
-        ensures fine { OnOk result (self.new.faults ≡ self.old.faults) }
-        ensures failed { OnErr result (self.new.faults ≡ counted self.old.faults) }
+        ensures spares { Spares (λ _. alone) (λ d. d.faults) self.old self.new (IsErr result) }
+        ensures counts { CountsFaults self.old.faults self.new.faults result }
+        ensures others { OthersAreSame file self.old.files self.new.files }
+        ensures trust { self.new.sync_failed ≡ self.old.sync_failed }
     {
         self.tick()?;
-        let done = write_to(self.files.get(file), at, bytes);
+        let done = self.files.write(file, at, bytes);
         self.told(done)
     }
 
     fn cut(&mut self, file: File, to: u64) -> Result<(), Failed>
         ensures clock { Ticks self.old.clock self.new.clock result }
-        ensures ticked { self.new.clock ≡ counted self.old.clock }
-        ensures cause { HasCause self.old.faults self.new.faults result }
-        ensures fine { OnOk result (self.new.faults ≡ self.old.faults) }
-        ensures failed { OnErr result (self.new.faults ≡ counted self.old.faults) }
+        ensures spares { Spares (λ _. alone) (λ d. d.faults) self.old self.new (IsErr result) }
+        ensures counts { CountsFaults self.old.faults self.new.faults result }
+        ensures files { self.new.files ≡ self.old.files }
+        ensures trust { self.new.sync_failed ≡ self.old.sync_failed }
     {
         self.tick()?;
         let done = cut_at(self.files.get(file), to);
@@ -288,13 +356,16 @@ impl<R: Files> Disk for FileDisk<R> {
 
     fn sync(&mut self, file: File) -> Result<(), Failed>
         ensures clock { Ticks self.old.clock self.new.clock result }
-        ensures ticked { self.new.clock ≡ counted self.old.clock }
-        ensures cause { HasCause self.old.faults self.new.faults result }
-        ensures fine { OnOk result (self.new.faults ≡ self.old.faults) }
-        ensures failed { OnErr result (self.new.faults ≡ counted self.old.faults) }
+        ensures spares { Spares (λ _. alone) (λ d. d.faults) self.old self.new (IsErr result) }
+        ensures counts { CountsFaults self.old.faults self.new.faults result }
+        ensures files { self.new.files ≡ self.old.files }
+
+        // A failed sync is never trusted again.
+        ensures fine { OnOk result ((self.old.sync_failed ≡ false) × (self.new.sync_failed ≡ false)) }
+        ensures failed { OnErr result (IsTrue self.new.sync_failed ⊎ (self.old.clock ≡ 2 ^ 64 - 1)) }
     {
         self.tick()?;
-        let done = self.files.get(file).sync_all();
+        let done = self.try_sync(file);
         self.told(done)
     }
 }

@@ -17,5 +17,5 @@ pub use disk::Disk;
 pub use fail_list::FailList;
 pub use failed::Failed;
 pub use file::File;
-pub use file_disk::{AtFault, FileDisk};
+pub use file_disk::{AtFault, FileDisk, LockFile};
 pub use mem_disk::MemDisk;

@@ -1,5 +1,6 @@
 ghost use Rattle.std.specs.Prelude.{◌≡◌, ◌≤◌, ◌⊎◌, ◌↔◌, ◌<◌, ◌^◌, ◌-◌, ◌+◌, List, [], ◌∷◌, ◌++◌, ℕ, length, IsTrue, IfSome, IfNone, IfOk, take, drop, IsErr, OnOk, OnErr, Contains};
-ghost use Rattle.basis.specs.Counts.{HasCause};
+ghost use Rattle.disk.specs.Beside.{alone};
+ghost use Rattle.disk.specs.Calls.{Spares};
 ghost use Rattle.disk.specs.Counted.{counted};
 ghost use Rattle.disk.specs.Images.{Images, end_of_lengths, patched, resting, after_write, after_cut, at_file, IsImage, Each, IsStill, Within, Becomes, OthersHold, OthersWithin};
 ghost use Rattle.disk.specs.MemDisk.{MemRecord, state_at, mem_held, mem_pending, mem_may_leave, fresh, called, ticked, blamed, hungry, noted, InPast, KeepsHeld, IsListed, IsWriteCall, IsCutCall, IsSyncCall};
@@ -317,7 +318,6 @@ impl MemDisk {
 }
 
 impl Disk for MemDisk {
-    ghost use Rattle.disk.specs.Beside.{alone};
     ghost use Rattle.disk.specs.MemLaws.{mem_held_now};
 
     ghost faults = { λ d. d.faults };
@@ -341,10 +341,9 @@ impl Disk for MemDisk {
     fn len(&mut self, file: File) -> Result<u64, Failed>
         ensures len { IfOk result (λ n. n ≡ length (mem_held self.old file)) }
         ensures short { IfOk result (λ n. n < end_of_lengths) }
-        ensures same { Unchanged (mem_held self.old) (mem_held self.new) (mem_pending self.old) (mem_pending self.new) self.old.clock (mem_may_leave self.old) (mem_may_leave self.new) }
+        ensures same { Unchanged (λ d. d.clock) mem_may_leave mem_held mem_pending self.old self.new }
         ensures clock { self.new.clock ≡ self.old.clock }
-        ensures cause { HasCause self.old.faults self.new.faults result }
-        ensures fine { OnOk result (self.new.faults ≡ self.old.faults) }
+        ensures spares { Spares (λ _. alone) (λ d. d.faults) self.old self.new (IsErr result) }
 
         // The listed calls fail, and no others.
         ensures listed { IsErr result ↔ IsListed self.old }
@@ -360,10 +359,9 @@ impl Disk for MemDisk {
     fn read_at(&mut self, file: File, at: u64, into: &mut [u8]) -> Result<(), Failed>
         requires { at + length into.old ≤ length (mem_held self.old file) }
         ensures bytes { OnOk result (into.new ≡ take (length into.old) (drop at (mem_held self.old file))) }
-        ensures same { Unchanged (mem_held self.old) (mem_held self.new) (mem_pending self.old) (mem_pending self.new) self.old.clock (mem_may_leave self.old) (mem_may_leave self.new) }
+        ensures same { Unchanged (λ d. d.clock) mem_may_leave mem_held mem_pending self.old self.new }
         ensures clock { self.new.clock ≡ self.old.clock }
-        ensures cause { HasCause self.old.faults self.new.faults result }
-        ensures fine { OnOk result (self.new.faults ≡ self.old.faults) }
+        ensures spares { Spares (λ _. alone) (λ d. d.faults) self.old self.new (IsErr result) }
         ensures listed { IsErr result ↔ IsListed self.old }
         ensures ok { OnOk result (self.new ≡ called self.old) }
         ensures err { OnErr result (self.new ≡ blamed (called self.old)) }
@@ -388,9 +386,8 @@ impl Disk for MemDisk {
         ensures time { Elapses self.old.clock self.new.clock (mem_may_leave self.old) (mem_may_leave self.new)
             (λ _. Each (at_file file (after_write at (length bytes.now)) (mem_pending self.old))) }
         ensures clock { Ticks self.old.clock self.new.clock result }
-        ensures at_end { self.old.clock ≡ 2 ^ 64 - 1 → Unchanged (mem_held self.old) (mem_held self.new) (mem_pending self.old) (mem_pending self.new) self.old.clock (mem_may_leave self.old) (mem_may_leave self.new) }
-        ensures cause { HasCause self.old.faults self.new.faults result }
-        ensures fine { OnOk result (self.new.faults ≡ self.old.faults) }
+        ensures at_end { self.old.clock ≡ 2 ^ 64 - 1 → Unchanged (λ d. d.clock) mem_may_leave mem_held mem_pending self.old self.new }
+        ensures spares { Spares (λ _. alone) (λ d. d.faults) self.old self.new (IsErr result) }
 
         // At `Failed` the files hold what they held.
         ensures kept { OnErr result (mem_held self.new ≡ mem_held self.old) }
@@ -408,9 +405,8 @@ impl Disk for MemDisk {
         ensures time { Elapses self.old.clock self.new.clock (mem_may_leave self.old) (mem_may_leave self.new)
             (λ _. Each (at_file file (after_cut to) (mem_pending self.old))) }
         ensures clock { Ticks self.old.clock self.new.clock result }
-        ensures at_end { self.old.clock ≡ 2 ^ 64 - 1 → Unchanged (mem_held self.old) (mem_held self.new) (mem_pending self.old) (mem_pending self.new) self.old.clock (mem_may_leave self.old) (mem_may_leave self.new) }
-        ensures cause { HasCause self.old.faults self.new.faults result }
-        ensures fine { OnOk result (self.new.faults ≡ self.old.faults) }
+        ensures at_end { self.old.clock ≡ 2 ^ 64 - 1 → Unchanged (λ d. d.clock) mem_may_leave mem_held mem_pending self.old self.new }
+        ensures spares { Spares (λ _. alone) (λ d. d.faults) self.old self.new (IsErr result) }
 
         // At `Failed` the files hold what they held.
         ensures kept { OnErr result (mem_held self.new ≡ mem_held self.old) }
@@ -427,9 +423,8 @@ impl Disk for MemDisk {
         ensures time { Elapses self.old.clock self.new.clock (mem_may_leave self.old) (mem_may_leave self.new)
             (λ _. Each (mem_pending self.old)) }
         ensures clock { Ticks self.old.clock self.new.clock result }
-        ensures at_end { self.old.clock ≡ 2 ^ 64 - 1 → Unchanged (mem_held self.old) (mem_held self.new) (mem_pending self.old) (mem_pending self.new) self.old.clock (mem_may_leave self.old) (mem_may_leave self.new) }
-        ensures cause { HasCause self.old.faults self.new.faults result }
-        ensures fine { OnOk result (self.new.faults ≡ self.old.faults) }
+        ensures at_end { self.old.clock ≡ 2 ^ 64 - 1 → Unchanged (λ d. d.clock) mem_may_leave mem_held mem_pending self.old self.new }
+        ensures spares { Spares (λ _. alone) (λ d. d.faults) self.old self.new (IsErr result) }
         ensures call { IsSyncCall self.old self.new file result }
     {
         self.sync_call(file)
