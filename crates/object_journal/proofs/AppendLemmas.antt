@@ -109,26 +109,20 @@ image_of_gate b c base es x place r may image = ⊎_elim
     (λ torn. inl (shut_gate b c base es x place (get_or c place 0) r torn.0 torn.1))
     (one_byte_kinds b c place open_gate (ready_inside b base es x place r) image)
 
--- ---- moments
+-- ---- what a stop leaves
 
-module _ {D : Type 0} (clock : D → ℕ) (may_leave : D → ℕ → Images → Type 0) (held : D → Images) (pending : D → File → Pending) where
-  pub record_moments : (old new : D) (base : ℕ) (es : List Entry) (place n : ℕ) → IsGatedAt (held old chosen) base es place
-      → Moments clock may_leave old new (λ _. LeavesWrite (held old) (pending old) (place + 1) n) → Moments clock may_leave old new (λ _. LeavesEntries (pending old) base es)
-  record_moments old new base es place n g m = weaker clock may_leave old new _ _ (λ t i above le w. record { file = image_behind (held old chosen) (i chosen) base es place n g w.file; others = w.others }) m
+pub leaves_record : (held : Images) (pending : File → Pending) (i : Images) (place n : ℕ) → LeavesWrite held pending (place + 1) n i → (base : ℕ) (es : List Entry) → IsGatedAt (held chosen) base es place → LeavesEntries pending base es i
+leaves_record held pending i place n w base es g = record { file = image_behind (held chosen) (i chosen) base es place n g w.file; others = w.others }
 
-  pub gate_moments : (old new : D) (base : ℕ) (es : List Entry) (x : Entry) (place : ℕ) → IsReadyAt (held old chosen) base es x place → MayFollow base es x
-      → Moments clock may_leave old new (λ _. LeavesWrite (held old) (pending old) place 1) → Moments clock may_leave old new (λ _. LeavesEither (pending old) base es x)
-  gate_moments old new base es x place r may m = weaker clock may_leave old new _ _ (λ t i above le w. record { file = image_of_gate (held old chosen) (i chosen) base es x place r may w.file; others = w.others }) m
+pub leaves_gate : (held : Images) (pending : File → Pending) (i : Images) (place : ℕ) → LeavesWrite held pending place 1 i
+    → (base : ℕ) (es : List Entry) (x : Entry) → IsReadyAt (held chosen) base es x place → MayFollow base es x → LeavesEither pending base es x i
+leaves_gate held pending i place w base es x r may = record { file = image_of_gate (held chosen) (i chosen) base es x place r may w.file; others = w.others }
 
-  pub before_moments : (old new : D) (base : ℕ) (es : List Entry) (x : Entry) → Moments clock may_leave old new (λ _. LeavesEntries (pending old) base es) → Moments clock may_leave old new (λ _. LeavesEither (pending old) base es x)
-  before_moments old new base es x m = weaker clock may_leave old new _ _ (λ t i above le w. record { file = inl w.file; others = w.others }) m
+pub leaves_first : (pending : File → Pending) (i : Images) (base : ℕ) (es : List Entry) (x : Entry) → LeavesEntries pending base es i → LeavesEither pending base es x i
+leaves_first pending i base es x w = record { file = inl w.file; others = w.others }
 
-  pub append_moments : (old mid new : D) (base : ℕ) (es : List Entry) (x : Entry) → OthersStay (held old) (held mid) (pending old) (pending mid)
-      → Moments clock may_leave old mid (λ _. LeavesEntries (pending old) base es) → Moments clock may_leave mid new (λ _. LeavesEither (pending mid) base es x)
-      → Moments clock may_leave old new (λ _. LeavesEither (pending old) base es x)
-  append_moments old mid new base es x stay first second = goes_on clock may_leave old mid new _
-      (before_moments old mid base es x first)
-      (weaker clock may_leave mid new _ _ (λ t i above le w. record { file = w.file; others = others_back _ _ _ _ i stay w.others }) second)
+pub either_back : (held_old held_mid : Images) (pending_old pending_mid : File → Pending) (i : Images) (base : ℕ) (es : List Entry) (x : Entry) → OthersStay held_old held_mid pending_old pending_mid → LeavesEither pending_mid base es x i → LeavesEither pending_old base es x i
+either_back held_old held_mid pending_old pending_mid i base es x s w = record { file = w.file; others = others_back held_old held_mid pending_old pending_mid i s w.others }
 
 -- ---- the end of the journal
 

@@ -7,7 +7,7 @@ mod PartLemmas
 mod HeldLemmas
 mod RuleLemmas
 mod ReaderLemmas
-mod StopLemmas
+pub mod StopLemmas
 mod AppendLemmas
 mod MendLemmas
 mod OpenLemmas

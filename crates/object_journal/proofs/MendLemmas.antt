@@ -3,8 +3,7 @@ use Rattle.std.proofs.Common.{◌≡◌, ◌⊎◌, inl, inr, ⊎_elim, ℕ, ◌
 use Rattle.std.proofs.lemmas.List.{take-append-drop}
 use Rattle.disk.specs.declared.file.File.{File}
 use Rattle.disk.specs.Images.{Pending, Images, IsImage, after_write, resting}
-use Rattle.disk.specs.Moments.{Moments}
-use Rattle.disk.specs.ImageLaws.{front_after_write, reached_most, goes_on, weaker}
+use Rattle.disk.specs.ImageLaws.{front_after_write, reached_most}
 use Rattle.object_journal.specs.declared.entry.Entry.{Entry}
 use Rattle.object_journal.specs.Payload.{frame_bytes}
 use Rattle.object_journal.specs.Journal.{IsHeader, IsGated, IsJournal, last_revision, header_of, records_of, open_gate}
@@ -97,30 +96,31 @@ image_of_first_gate b c base h image =
     (λ short. inl (omega (arith, short.0), ⊎_elim (λ (l : length b ≡ 17). absurd (omega (arith, l, short.1))) (λ s. s.1) (headed_size b base h), refl))
     (size_cases (length c) (length b) image.no_shorter most least)
 
--- ---- moments
+-- ---- what a stop leaves
 
-module _ {D : Type 0} (clock : D → ℕ) (may_leave : D → ℕ → Images → Type 0) (held : D → Images) (pending : D → File → Pending) where
-  pub first_gate_moments : (old new : D) (base : ℕ) → IsHeaded (held old chosen) base
-      → Moments clock may_leave old new (λ _. LeavesWrite (held old) (pending old) 16 1) → Moments clock may_leave old new (λ _. LeavesNone (pending old) base)
-  first_gate_moments old new base h m = weaker clock may_leave old new _ _ (λ t i above le w. record { file = image_of_first_gate (held old chosen) (i chosen) base h w.file; others = w.others }) m
+pub leaves_none : (held : Images) (pending : File → Pending) (i : Images) → LeavesWrite held pending 16 1 i → (base : ℕ) → IsHeaded (held chosen) base → LeavesNone pending base i
+leaves_none held pending i w base h = record { file = image_of_first_gate (held chosen) (i chosen) base h w.file; others = w.others }
 
-  pub none_moments : (old new : D) (base : ℕ) (es : List Entry) → length (held old chosen) ≤ 17 → IsJournal (held old chosen) base es
-      → Moments clock may_leave old new (λ _. LeavesNone (pending old) base) → Moments clock may_leave old new (λ _. LeavesMeaning (held old) (pending old))
-  none_moments old new base es short j m = weaker clock may_leave old new _ _ (λ t i above le w. record { file = same_none (held old chosen) (i chosen) base es j (no_entries (held old chosen) base es short j) w.file; long = λ more. absurd (omega (arith, more, short)); others = w.others }) m
+-- a header over a fresh file leaves one
+pub leaves_header : (held : Images) (pending : File → Pending) (i : Images) → length (held chosen) ≤ 16 → LeavesWrite held pending 0 16 i → LeavesNone pending 0 i
+leaves_header held pending i short w = record {
+  file = inl (omega (arith, w.file.no_longer, reached_most 0 16 (length (held chosen)), short), refl, refl);
+  others = w.others;
+}
 
-  pub gate_alone_moments : (old new : D) (base : ℕ) (es : List Entry) → length (held old chosen) ≡ 17 → IsJournal (held old chosen) base es
-      → ((b : ℕ) → IsHeaded (held old chosen) b → Moments clock may_leave old new (λ _. LeavesNone (pending old) b)) → Moments clock may_leave old new (λ _. LeavesMeaning (held old) (pending old))
-  gate_alone_moments old new base es size j m = none_moments old new base es (omega (arith, size)) j (m base (headed_gate (held old chosen) base es size j))
+pub none_means : (held : Images) (pending : File → Pending) (i : Images) (base : ℕ) (es : List Entry) → length (held chosen) ≤ 17 → IsJournal (held chosen) base es → LeavesNone pending base i → LeavesMeaning held pending i
+none_means held pending i base es short j w = record { file = same_none (held chosen) (i chosen) base es j (no_entries (held chosen) base es short j) w.file; long = λ more. absurd (omega (arith, more, short)); others = w.others }
 
-  at_zero : (old new : D) (base : ℕ) → base ≡ 0 → Moments clock may_leave old new (λ _. LeavesNone (pending old) 0) → Moments clock may_leave old new (λ _. LeavesNone (pending old) base)
-  at_zero old new base is m = subst (λ (b : ℕ). Moments clock may_leave old new (λ _. LeavesNone (pending old) b)) (sym is) m
+-- a file of 17 bytes
+pub gate_alone_means : (held : Images) (pending : File → Pending) (i : Images) → length (held chosen) ≡ 17 → ((b : ℕ) → IsHeaded (held chosen) b → LeavesNone pending b i)
+    → (base : ℕ) (es : List Entry) → IsJournal (held chosen) base es → LeavesMeaning held pending i
+gate_alone_means held pending i size w base es j = none_means held pending i base es (omega (arith, size)) j (w base (headed_gate (held chosen) base es size j))
 
-  pub header_moments : (old new : D) (base : ℕ) (es : List Entry) → length (held old chosen) ≤ 16 → IsJournal (held old chosen) base es
-      → Moments clock may_leave old new (λ _. LeavesNone (pending old) 0) → Moments clock may_leave old new (λ _. LeavesMeaning (held old) (pending old))
-  header_moments old new base es short j m = none_moments old new base es (omega (arith, short)) j (at_zero old new base (fresh_base (held old chosen) base es short j) m)
+-- a fresh file
+pub fresh_means : (held : Images) (pending : File → Pending) (i : Images) → length (held chosen) ≤ 16 → LeavesNone pending 0 i
+    → (base : ℕ) (es : List Entry) → IsJournal (held chosen) base es → LeavesMeaning held pending i
+fresh_means held pending i short w base es j =
+    none_means held pending i base es (omega (arith, short)) j (subst (λ (b : ℕ). LeavesNone pending b i) (sym (fresh_base (held chosen) base es short j)) w)
 
-  pub fresh_moments : (old mid new : D) (base : ℕ) (es : List Entry) → length (held old chosen) ≤ 16 → IsJournal (held old chosen) base es → OthersStay (held old) (held mid) (pending old) (pending mid)
-      → Moments clock may_leave old mid (λ _. LeavesNone (pending old) 0) → Moments clock may_leave mid new (λ _. LeavesNone (pending mid) 0)
-      → Moments clock may_leave old new (λ _. LeavesMeaning (held old) (pending old))
-  fresh_moments old mid new base es short j stay first second = header_moments old new base es short j
-      (goes_on clock may_leave old mid new _ first (weaker clock may_leave mid new _ _ (λ t i above le w. record { file = w.file; others = others_back _ _ _ _ i stay w.others }) second))
+pub none_back : (held_old held_mid : Images) (pending_old pending_mid : File → Pending) (i : Images) → OthersStay held_old held_mid pending_old pending_mid → LeavesNone pending_mid 0 i → LeavesNone pending_old 0 i
+none_back held_old held_mid pending_old pending_mid i s w = record { file = w.file; others = others_back held_old held_mid pending_old pending_mid i s w.others }

@@ -1,7 +1,8 @@
 -- What an opening leaves, from its first sync on.
-use Rattle.std.proofs.Common.{◌≡◌, inl, inr, ⊎_elim, ℕ, ◌+◌, ◌≤◌, ◌<◌, List, [], ◌∷◌, ◌++◌, length, sym, ap, subst, ◌∙◌, arith}
-use Rattle.std.specs.Prelude.{false, true, Result, Ok, Err, IsErr}
+use Rattle.std.proofs.Common.{◌≡◌, inl, inr, ⊎_elim, ℕ, ◌+◌, ◌-◌, ◌^◌, ◌≤◌, ◌<◌, List, [], ◌∷◌, ◌++◌, length, sym, ap, subst, ◌∙◌, arith}
+use Rattle.std.specs.Prelude.{false, true, Result, Ok, Err, IsErr, IsErrOf}
 use Rattle.std.proofs.lemmas.Bool.{cases_lt}
+use Rattle.disk.specs.Counted.{counted}
 use Rattle.disk.specs.declared.file.File.{File}
 use Rattle.disk.specs.declared.file.File.TheVariants.{Left}
 use Rattle.disk.specs.Images.{Pending, Images, Each, IsStill, OthersWithin, end_of_lengths}
@@ -12,7 +13,7 @@ use Rattle.object_journal.specs.declared.opening.OpenFault.{OpenFault}
 use Rattle.object_journal.specs.declared.opening.OpenFault.TheVariants.{NotAStore, Disk, Memory}
 use Rattle.object_journal.specs.Frames.{closed_gate}
 use Rattle.object_journal.specs.Journal.{IsJournal, IsGated, AreLawful, last_revision, header_of, records_of}
-use Rattle.object_journal.specs.Standing.{chosen, MeansSame, LeavesMeaning, OpensOver, IsMended}
+use Rattle.object_journal.specs.Standing.{chosen, MeansSame, LeavesMeaning, IsSynced, IsMended}
 use Rattle.object_journal.proofs.Readings.{long_header}
 use Rattle.object_journal.proofs.AppendLemmas.{gate_inside, not_open}
 use Rattle.object_journal.proofs.MendLemmas.{no_entries}
@@ -22,7 +23,12 @@ same_bytes b c is = record { means = λ base es j. subst (λ (t : List ℕ). IsJ
 
 -- a call whose result is good raises the clock
 pub rises : {T E : Type 0} (before now : ℕ) (r : Result T E) (v : T) → r ≡ Ok v → Ticks before now r → before < now
-rises before now r v is ticks = ⊎_elim (λ rose. rose) (λ last. absurd (let e : false ≡ true = subst IsErr is (ticks.ends last) in cc)) ticks.rises
+rises before now r v is ticks = ⊎_elim
+    (λ (less : before < 2 ^ 64 - 1). omega (arith, less, ticks.by_one))
+    (λ (most : 2 ^ 64 - 1 ≤ before). absurd (
+    let last : before ≡ 2 ^ 64 - 1 = omega (arith, most, ticks.later, ticks.by_one) in
+    let e : false ≡ true = subst IsErr is (ticks.ends last) in cc))
+    (cases_lt before (2 ^ 64 - 1))
 
 -- what a still file may leave
 pub leaves_still : (held : Images) (pending : File → Pending) (i : Images) → IsStill held pending chosen → Each pending i → LeavesMeaning held pending i
@@ -37,46 +43,35 @@ leaves_from held_old held_mid pending_old pending_mid i same within l = record {
 
 module _ {D : Type 0} (clock : D → ℕ) (may_leave : D → ℕ → Images → Type 0) (held : D → Images) (pending : D → File → Pending) where
   -- calls that only read
-  pub read_moments : (old new : D) (P : ℕ → Images → Type 0) → Unchanged (held old) (held new) (pending old) (pending new) (clock old) (may_leave old) (may_leave new) → clock new ≡ clock old → Moments clock may_leave old new P
+  pub read_moments : (old new : D) (P : ℕ → Images → Type 0) → Unchanged clock may_leave held pending old new → clock new ≡ clock old → Moments clock may_leave old new P
   read_moments old new P same still = record {
     later = omega (arith, still);
     kept = λ t i le. same.kept t i le;
     added = λ t i above le now. absurd (omega (arith, above, le, still));
   }
 
-  pub read_on_moments : (old mid new : D) → Unchanged (held old) (held mid) (pending old) (pending mid) (clock old) (may_leave old) (may_leave mid) → clock mid ≡ clock old
+  pub read_on_moments : (old mid new : D) → Unchanged clock may_leave held pending old mid → clock mid ≡ clock old
       → Moments clock may_leave mid new (λ _. LeavesMeaning (held mid) (pending mid)) → Moments clock may_leave old new (λ _. LeavesMeaning (held old) (pending old))
   read_on_moments old mid new same still m = goes_on clock may_leave old mid new _ (read_moments old mid _ same still)
       (subst (λ (s : Images × (File → Pending)). Moments clock may_leave mid new (λ _. LeavesMeaning s.0 s.1)) (λ i. (same.held i, same.pending i)) m)
 
-  pub opens : (good : Type 0) (old mid new : D) → clock old < clock mid → held mid ≡ held old → IsStill (held mid) (pending mid) chosen → OthersWithin chosen (pending old) (pending mid)
+  pub opens : (old mid new : D) → clock old < clock mid → clock mid ≡ counted (clock old) → held mid ≡ held old → IsStill (held mid) (pending mid) chosen → OthersWithin chosen (pending old) (pending mid)
       → ((i : Images) → may_leave mid (clock mid) i → Each (pending mid) i)
-      → Moments clock may_leave old mid (λ _. Each (pending old)) → Moments clock may_leave mid new (λ _. LeavesMeaning (held mid) (pending mid)) → OpensOver clock may_leave held pending good old new
-  opens good old mid new rose same still within present first second = record {
-    synced = clock mid;
-    from = rose;
-    to = omega (arith, second.later);
-    ends = λ _. second.later;
-    before = λ t i above below now. let le : t ≤ clock mid = omega (arith, below) in first.added t i above le ((second.kept t i le).0 now);
-    after = λ t i from le now. leaves_from (held old) (held mid) (pending old) (pending mid) i same within (⊎_elim
-        (λ (later : clock mid < t). second.added t i later le now)
-        (λ (at : t ≤ clock mid).
-        let is : t ≡ clock mid = omega (arith, at, from) in
-        leaves_still (held mid) (pending mid) i still (present i (subst (λ (n : ℕ). may_leave mid n i) is ((second.kept t i at).0 now))))
-        (cases_lt (clock mid) t));
-    kept = λ t i le. let a = first.kept t i le in let b = second.kept t i (omega (arith, le, first.later)) in (λ x. a.0 (b.0 x), λ x. b.1 (a.1 x));
-  }
-
-  pub opens_not : (good : Type 0) (old new : D) → ¬ good → Moments clock may_leave old new (λ _. Each (pending old)) → OpensOver clock may_leave held pending good old new
-  opens_not good old new failed m = record {
-    synced = clock new + 1;
-    from = omega (arith, m.later);
-    to = omega arith;
-    ends = λ g. absurd (failed g);
-    before = λ t i above below now. m.added t i above (omega (arith, below)) now;
-    after = λ t i from le now. absurd (omega (arith, from, le));
-    kept = m.kept;
-  }
+      → Moments clock may_leave old mid (λ _. Each (pending old)) → Moments clock may_leave mid new (λ _. LeavesMeaning (held mid) (pending mid)) → IsSynced clock may_leave held pending old new
+  opens old mid new rose by_one same still within present first second =
+      let back : (i : Images) → LeavesMeaning (held mid) (pending mid) i → LeavesMeaning (held old) (pending old) i = λ i l. leaves_from (held old) (held mid) (pending old) (pending mid) i same within l in
+      record {
+        begun = omega (arith, rose, second.later);
+        time = goes_on clock may_leave old mid new _
+            (record {
+              later = first.later;
+              kept = first.kept;
+              added = λ t i above le now.
+                  let is : t ≡ clock mid = omega (arith, above, le, by_one) in
+                  back i (leaves_still (held mid) (pending mid) i still (present i (subst (λ (n : ℕ). may_leave mid n i) is now)));
+            })
+            (weaker clock may_leave mid new _ _ (λ t i above le l. back i l) second);
+      }
 
   pub still_first : (old new : D) → IsStill (held old) (pending old) chosen → Moments clock may_leave old new (λ _. Each (pending old)) → Moments clock may_leave old new (λ _. LeavesMeaning (held old) (pending old))
   still_first old new still m = weaker clock may_leave old new (λ _. Each (pending old)) _ (λ t i above le each. leaves_still (held old) (pending old) i still each) m
@@ -131,3 +126,7 @@ one_refusal a file_place file r p q =
     let e : fault_in r ≡ NotAStore chosen a = ap fault_in p in
     let f : fault_in r ≡ NotAStore file file_place = ap fault_in q in
     (ap file_in (sym f ∙ e), ap place_in (sym f ∙ e))
+
+-- a fault of the disk tells of no place
+pub not_refused : {T : Type 0} (r : Result T OpenFault) (file : File) (at : ℕ) → r ≡ Err Disk → IsErrOf r (NotAStore file at) → ⊥
+not_refused r file at bad is = let e : Disk ≡ NotAStore file at = ap fault_in (sym bad ∙ is) in cc

@@ -1,13 +1,17 @@
 -- A journal that stands on a disk, and what a stop during its calls may leave.
-use Rattle.std.specs.Prelude.{◌≡◌, ◌≢◌, ◌⊎◌, ◌↔◌, ℕ, ◌+◌, ◌≤◌, ◌<◌, false, List, [], ◌∷◌, ◌++◌, length}
+use Rattle.std.specs.Prelude.{◌≡◌, ◌≢◌, ◌⊎◌, ℕ, ◌+◌, ◌≤◌, ◌<◌, false, List, [], ◌∷◌, ◌++◌, length, Result, IsErrOf}
+use Rattle.disk.specs.Counted.{counted}
 use Rattle.disk.specs.declared.file.File.{File}
 use Rattle.disk.specs.declared.file.File.TheVariants.{Left}
-use Rattle.disk.specs.Images.{Pending, Images, IsImage, Each, IsStill, OthersHold, OthersWithin, same_file, end_of_lengths, after_write, patched, resting}
+use Rattle.disk.specs.Images.{Pending, Images, IsImage, Each, IsStill, Within, OthersHold, OthersWithin, same_file, end_of_lengths, after_write, patched, resting}
+use Rattle.disk.specs.Moments.{Moments}
 use Rattle.object_journal.specs.declared.entry.Entry.{Entry}
+use Rattle.object_journal.specs.declared.opening.OpenFault.{OpenFault}
+use Rattle.object_journal.specs.declared.opening.OpenFault.TheVariants.{NotAStore, Disk}
 use Rattle.object_journal.specs.declared.appending.Journal.{Journal}
 use Rattle.object_journal.specs.Payload.{frame_bytes}
 use Rattle.object_journal.specs.Frames.{closed_gate}
-use Rattle.object_journal.specs.Journal.{AreLawful, IsGated, IsHeader, IsJournal, IsRefusal, last_revision, revision_after, open_gate, header_of, records_of}
+use Rattle.object_journal.specs.Journal.{AreLawful, IsGated, IsHeader, IsJournal, IsRefusal, MayFollow, last_revision, revision_after, open_gate, header_of, records_of}
 
 -- the file of the journal
 abbrev pub chosen : File
@@ -38,6 +42,14 @@ OthersMayBe pending images = (f : File) → same_file f chosen ≡ false → IsI
 pub record LeavesWrite (held : Images) (pending : File → Pending) (at n : ℕ) (images : Images) : Type 0 where
   pub file : IsImage (after_write at n (resting (held chosen))) (images chosen)
   pub others : OthersMayBe pending images
+
+-- How a call ends that writes to the journal's file: where it was good, the file is still again. At each of its moments a
+-- stop leaves these images. The other files stay.
+pub record Writes {D : Type 0} (clock : D → ℕ) (may_leave : D → ℕ → Images → Type 0) (held : D → Images)
+    (pending : D → File → Pending) (old new : D) (good : Type 0) (Left : Images → Type 0) : Type 0 where
+  pub still : good → IsStill (held new) (pending new) chosen
+  pub time : Moments clock may_leave old new (λ _. Left)
+  pub others : OthersStay (held old) (held new) (pending old) (pending new)
 
 -- ---- an append
 
@@ -70,6 +82,11 @@ pub record LeavesEither (pending : File → Pending) (base : ℕ) (entries : Lis
   pub file : IsGated (images chosen) base entries ⊎ IsGated (images chosen) base (entries ++ new ∷ [])
   pub others : OthersMayBe pending images
 
+-- a stop leaves the entries that the journal stands with, or these and the new one
+abbrev pub LeavesAppend : Type 0 → Images → (File → Pending) → Journal → Entry → Images → Type 0
+LeavesAppend tells held pending j new images = (entries : List Entry) → StandsOn tells held pending j entries
+    → MayFollow j.base entries new → LeavesEither pending j.base entries new images
+
 -- ---- an opening
 
 -- The second bytes mean what the first do. Where these break the grammar, they are the same.
@@ -88,16 +105,31 @@ pub record LeavesMeaning (held : Images) (pending : File → Pending) (images : 
   pub long : 17 < length (held chosen) → images chosen ≡ held chosen
   pub others : OthersMayBe pending images
 
--- Before the end of the first sync a stop leaves what was pending; from it on, what the file held, or what means the same. A first sync that
--- is good ends within the call.
-pub record OpensOver {D : Type 0} (clock : D → ℕ) (may_leave : D → ℕ → Images → Type 0) (held : D → Images) (pending : D → File → Pending) (good : Type 0) (old new : D) : Type 0 where
-  pub synced : ℕ
-  pub from : clock old < synced
-  pub to : synced ≤ clock new + 1
-  pub ends : good → synced ≤ clock new
-  pub before : (t : ℕ) (images : Images) → clock old < t → t < synced → may_leave new t images → Each (pending old) images
-  pub after : (t : ℕ) (images : Images) → synced ≤ t → t ≤ clock new → may_leave new t images → LeavesMeaning (held old) (pending old) images
-  pub kept : (t : ℕ) (images : Images) → t ≤ clock old → may_leave new t images ↔ may_leave old t images
+-- The first sync failed, and nothing came after it: its moment is the only one of the call.
+pub record IsUnsynced {D : Type 0} (clock : D → ℕ) (may_leave : D → ℕ → Images → Type 0) (held : D → Images)
+    (pending : D → File → Pending) (old new : D) : Type 0 where
+  pub once : clock new ≡ counted (clock old)
+  pub same : held new ≡ held old
+  pub within : Within (pending new chosen) (pending old chosen)
+  pub time : Moments clock may_leave old new (λ _. Each (pending old))
+
+-- The first sync was good. Its moment is the first of the call, and from it on a stop leaves what the file held, or what
+-- means the same.
+pub record IsSynced {D : Type 0} (clock : D → ℕ) (may_leave : D → ℕ → Images → Type 0) (held : D → Images)
+    (pending : D → File → Pending) (old new : D) : Type 0 where
+  pub begun : clock old < clock new
+  pub time : Moments clock may_leave old new (λ _. LeavesMeaning (held old) (pending old))
+
+-- How an opening ends on a disk that tells. Bytes that break the grammar are refused at their place, and stay. The file is
+-- still, unless the disk failed. Where it was still before, each moment of the call leaves its meaning.
+pub record Opens {D T : Type 0} (clock : D → ℕ) (may_leave : D → ℕ → Images → Type 0) (held : D → Images)
+    (pending : D → File → Pending) (old new : D) (result : Result T OpenFault) : Type 0 where
+  pub refused : (file : File) (at : ℕ) → IsErrOf result (NotAStore file at)
+      → (file ≡ chosen) × IsRefusal (held old chosen) at × (held new ≡ held old)
+  pub still : ¬ IsErrOf result Disk → IsStill (held new) (pending new) chosen
+  pub time : (IsErrOf result Disk × IsUnsynced clock may_leave held pending old new) ⊎ IsSynced clock may_leave held pending old new
+  pub rested : IsStill (held old) (pending old) chosen → Moments clock may_leave old new (λ _. LeavesMeaning (held old) (pending old))
+  pub others : OthersStay (held old) (held new) (pending old) (pending new)
 
 -- a header of base 0 alone, or a header and one gate
 abbrev pub IsHeaded : List ℕ → ℕ → Type 0

@@ -1,13 +1,12 @@
 //! A journal that stands on a disk, and its next record.
-ghost use Rattle.std.specs.Prelude.{◌≡◌, ◌↔◌, ◌≤◌, ◌<◌, ◌+◌, ℕ, true, List, [], ◌∷◌, ◌++◌, length, max, OnOk, OnErr};
-ghost use Rattle.basis.specs.Counts.{HasCause};
-ghost use Rattle.disk.specs.Images.{Images, IsStill, end_of_lengths, patched};
-ghost use Rattle.disk.specs.Moments.{Moments};
+ghost use Rattle.std.specs.Prelude.{◌≡◌, ◌<◌, ◌+◌, ℕ, true, List, [], ◌∷◌, ◌++◌, length, max, IsOk, IsErr, OnOk, OnErr};
+ghost use Rattle.disk.specs.Calls.{Spares};
+ghost use Rattle.disk.specs.Images.{IsStill, end_of_lengths, patched};
 ghost use Rattle.object_journal.specs.declared.entry.Entry.{Entry};
 ghost use Rattle.object_journal.specs.Payload.{frame_bytes};
 ghost use Rattle.object_journal.specs.Frames.{closed_gate};
 ghost use Rattle.object_journal.specs.Journal.{MayFollow, IsGated, open_gate as open_byte};
-ghost use Rattle.object_journal.specs.Standing.{chosen, StandsOn, OthersStay, IsGatedAt, IsReadyAt, appended, LeavesEntries, LeavesEither};
+ghost use Rattle.object_journal.specs.Standing.{chosen, StandsOn, IsGatedAt, IsReadyAt, appended, LeavesEntries, LeavesEither, LeavesAppend, Writes};
 
 use crate::framed::Framed;
 use crate::put::put_still;
@@ -29,16 +28,15 @@ fn put_record<D: Disk>(disk: &mut D, end: u64, framed: &Framed) -> Result<(), Fa
     requires short { end < end_of_lengths }
     requires place { D.tells → end < length (D.held disk.old chosen) }
     requires still { D.tells → IsStill (D.held disk.old) (D.pending disk.old) chosen }
-    ensures ready { D.tells → OnOk result ((base : ℕ) (entries : List Entry) → IsGatedAt (D.held disk.old chosen) base entries end → IsReadyAt (D.held disk.new chosen) base entries framed.now end) }
-    ensures written { D.tells → OnOk result (D.held disk.new chosen ≡ patched (D.held disk.old chosen) (end + 1) (frame_bytes framed.now ++ closed_gate ∷ [])) }
+    ensures ready { D.tells → OnOk result ((base : ℕ) (entries : List Entry)
+        → IsGatedAt (D.held disk.old chosen) base entries end → IsReadyAt (D.held disk.new chosen) base entries framed.now end) }
+    ensures written { D.tells → OnOk result
+        (D.held disk.new chosen ≡ patched (D.held disk.old chosen) (end + 1) (frame_bytes framed.now ++ closed_gate ∷ [])) }
     ensures short { OnOk result (end + 1 + length (frame_bytes framed.now) < end_of_lengths) }
-    ensures still { D.tells → OnOk result (IsStill (D.held disk.new) (D.pending disk.new) chosen) }
-    ensures time { D.tells → (base : ℕ) (entries : List Entry) → IsGatedAt (D.held disk.old chosen) base entries end → Moments D.clock D.may_leave disk.old disk.new
-        (λ _. LeavesEntries (D.pending disk.old) base entries) }
-    ensures others { D.tells → OthersStay (D.held disk.old) (D.held disk.new) (D.pending disk.old) (D.pending disk.new) }
-    ensures beside { D.beside disk.new ≡ D.beside disk.old }
-    ensures cause { HasCause (D.faults disk.old) (D.faults disk.new) result }
-    ensures fine { OnOk result (D.faults disk.new ≡ D.faults disk.old) }
+    ensures writes { D.tells → Writes D.clock D.may_leave D.held D.pending disk.old disk.new (IsOk result)
+        (λ images. (base : ℕ) (entries : List Entry) → IsGatedAt (D.held disk.old chosen) base entries end
+            → LeavesEntries (D.pending disk.old) base entries images) }
+    ensures spares { Spares D.beside D.faults disk.old disk.new (IsErr result) }
 {
     put_still(disk, end + 1, framed.bytes())
 }
@@ -47,15 +45,14 @@ fn put_record<D: Disk>(disk: &mut D, end: u64, framed: &Framed) -> Result<(), Fa
 fn open_gate<D: Disk>(disk: &mut D, end: u64) -> Result<(), Failed>
     requires place { D.tells → end < length (D.held disk.old chosen) }
     requires still { D.tells → IsStill (D.held disk.old) (D.pending disk.old) chosen }
-    ensures opened { D.tells → OnOk result ((base : ℕ) (entries : List Entry) (new : Entry) → IsReadyAt (D.held disk.old chosen) base entries new end → MayFollow base entries new → IsGated (D.held disk.new chosen) base (entries ++ new ∷ [])) }
+    ensures opened { D.tells → OnOk result ((base : ℕ) (entries : List Entry) (new : Entry)
+        → IsReadyAt (D.held disk.old chosen) base entries new end → MayFollow base entries new
+        → IsGated (D.held disk.new chosen) base (entries ++ new ∷ [])) }
     ensures written { D.tells → OnOk result (D.held disk.new chosen ≡ patched (D.held disk.old chosen) end (open_byte ∷ [])) }
-    ensures still { D.tells → OnOk result (IsStill (D.held disk.new) (D.pending disk.new) chosen) }
-    ensures time { D.tells → (base : ℕ) (entries : List Entry) (new : Entry) → IsReadyAt (D.held disk.old chosen) base entries new end → MayFollow base entries new → Moments D.clock D.may_leave disk.old disk.new
-        (λ _. LeavesEither (D.pending disk.old) base entries new) }
-    ensures others { D.tells → OthersStay (D.held disk.old) (D.held disk.new) (D.pending disk.old) (D.pending disk.new) }
-    ensures beside { D.beside disk.new ≡ D.beside disk.old }
-    ensures cause { HasCause (D.faults disk.old) (D.faults disk.new) result }
-    ensures fine { OnOk result (D.faults disk.new ≡ D.faults disk.old) }
+    ensures writes { D.tells → Writes D.clock D.may_leave D.held D.pending disk.old disk.new (IsOk result)
+        (λ images. (base : ℕ) (entries : List Entry) (new : Entry) → IsReadyAt (D.held disk.old chosen) base entries new end
+            → MayFollow base entries new → LeavesEither (D.pending disk.old) base entries new images) }
+    ensures spares { Spares D.beside D.faults disk.old disk.new (IsErr result) }
 {
     put_still(disk, end, &[OPEN_GATE])
 }
@@ -63,17 +60,19 @@ fn open_gate<D: Disk>(disk: &mut D, end: u64) -> Result<(), Failed>
 impl Journal {
     /// Puts the framed entry behind the others. The journal ends where the disk fails.
     pub fn append<D: Disk>(&mut self, framed: &Framed, disk: &mut D) -> Result<(), Failed>
-        requires { (entries : List Entry) × StandsOn D.tells (D.held disk.old) (D.pending disk.old) self.old entries × MayFollow self.old.base entries framed.now }
-        ensures stands { OnOk result ((entries : List Entry) → StandsOn D.tells (D.held disk.old) (D.pending disk.old) self.old entries → MayFollow self.old.base entries framed.now → StandsOn D.tells (D.held disk.new) (D.pending disk.new) self.new (entries ++ framed.now ∷ [])) }
-        ensures ok { OnOk result (self.new ≡ record self.old { revision = max self.old.revision framed.now.revision; end = self.old.end + 1 + length (frame_bytes framed.now) }) }
+        requires { (entries : List Entry) × StandsOn D.tells (D.held disk.old) (D.pending disk.old) self.old entries
+            × MayFollow self.old.base entries framed.now }
+        ensures stands { OnOk result ((entries : List Entry) → StandsOn D.tells (D.held disk.old) (D.pending disk.old) self.old entries
+            → MayFollow self.old.base entries framed.now
+            → StandsOn D.tells (D.held disk.new) (D.pending disk.new) self.new (entries ++ framed.now ∷ [])) }
+        ensures ok { OnOk result (self.new ≡ record self.old {
+            revision = max self.old.revision framed.now.revision;
+            end = self.old.end + 1 + length (frame_bytes framed.now) }) }
         ensures failed { OnErr result (self.new ≡ record self.old { ended = true }) }
         ensures written { D.tells → OnOk result (D.held disk.new chosen ≡ appended (D.held disk.old chosen) self.old.end framed.now) }
-        ensures time { D.tells → (entries : List Entry) → StandsOn D.tells (D.held disk.old) (D.pending disk.old) self.old entries → MayFollow self.old.base entries framed.now → Moments D.clock D.may_leave disk.old disk.new
-            (λ _. LeavesEither (D.pending disk.old) self.old.base entries framed.now) }
-        ensures others { D.tells → OthersStay (D.held disk.old) (D.held disk.new) (D.pending disk.old) (D.pending disk.new) }
-        ensures beside { D.beside disk.new ≡ D.beside disk.old }
-        ensures cause { HasCause (D.faults disk.old) (D.faults disk.new) result }
-        ensures fine { OnOk result (D.faults disk.new ≡ D.faults disk.old) }
+        ensures writes { D.tells → Writes D.clock D.may_leave D.held D.pending disk.old disk.new (IsOk result)
+            (LeavesAppend D.tells (D.held disk.old) (D.pending disk.old) self.old framed.now) }
+        ensures spares { Spares D.beside D.faults disk.old disk.new (IsErr result) }
     {
         self.ended = true;
         put_record(disk, self.end, framed)?;

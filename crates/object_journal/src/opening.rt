@@ -1,14 +1,14 @@
 //! Opening the journal on a disk.
-ghost use Rattle.std.specs.Prelude.{◌≡◌, ◌≤◌, ◌<◌, ◌+◌, ℕ, List, [], ◌∷◌, ◌++◌, length, IfOk, OnOk, IsErrOf};
-ghost use Rattle.basis.specs.Counts.{HasCause, Rose};
-ghost use Rattle.disk.specs.Images.{Images, IsStill, end_of_lengths};
+ghost use Rattle.std.specs.Prelude.{◌≡◌, ◌≤◌, ◌<◌, ℕ, List, [], ◌∷◌, ◌++◌, length, IsOk, IsErr, IfOk, OnOk, IsErrOf};
+ghost use Rattle.disk.specs.Calls.{Spares};
+ghost use Rattle.disk.specs.Images.{IsStill, end_of_lengths};
 ghost use Rattle.disk.specs.Moments.{Moments, Unchanged};
 ghost use Rattle.disk.specs.declared.file.File.{File as FileS};
 ghost use Rattle.object_journal.specs.declared.entry.Entry.{Entry};
 ghost use Rattle.object_journal.specs.declared.opening.OpenFault.TheVariants.{NotAStore};
 ghost use Rattle.object_journal.specs.Frames.{closed_gate};
-ghost use Rattle.object_journal.specs.Journal.{IsJournal, IsRefusal, last_revision, header_of};
-ghost use Rattle.object_journal.specs.Standing.{chosen, StandsOn, OthersStay, IsHeaded, IsMended, LeavesNone, LeavesMeaning, OpensOver};
+ghost use Rattle.object_journal.specs.Journal.{IsJournal, IsRefusal, header_of};
+ghost use Rattle.object_journal.specs.Standing.{chosen, StandsOn, OthersStay, IsHeaded, IsMended, LeavesNone, LeavesMeaning, Opens, Writes};
 
 use crate::appending::Journal;
 use crate::entry::Entries;
@@ -54,12 +54,9 @@ fn put_header<D: Disk>(disk: &mut D) -> Result<(), Failed>
     requires fresh { D.tells → length (D.held disk.old chosen) ≤ 16 }
     requires still { D.tells → IsStill (D.held disk.old) (D.pending disk.old) chosen }
     ensures written { D.tells → OnOk result (D.held disk.new chosen ≡ header_of 0) }
-    ensures still { D.tells → OnOk result (IsStill (D.held disk.new) (D.pending disk.new) chosen) }
-    ensures time { D.tells → Moments D.clock D.may_leave disk.old disk.new (λ _. LeavesNone (D.pending disk.old) 0) }
-    ensures others { D.tells → OthersStay (D.held disk.old) (D.held disk.new) (D.pending disk.old) (D.pending disk.new) }
-    ensures beside { D.beside disk.new ≡ D.beside disk.old }
-    ensures cause { HasCause (D.faults disk.old) (D.faults disk.new) result }
-    ensures fine { OnOk result (D.faults disk.new ≡ D.faults disk.old) }
+    ensures writes { D.tells → Writes D.clock D.may_leave D.held D.pending disk.old disk.new (IsOk result)
+        (LeavesNone (D.pending disk.old) 0) }
+    ensures spares { Spares D.beside D.faults disk.old disk.new (IsErr result) }
 {
     put_still(disk, 0, b"KEMUJNL1\0\0\0\0\0\0\0\0")
 }
@@ -68,13 +65,11 @@ fn put_header<D: Disk>(disk: &mut D) -> Result<(), Failed>
 fn put_gate<D: Disk>(disk: &mut D) -> Result<(), Failed>
     requires place { D.tells → 16 ≤ length (D.held disk.old chosen) }
     requires still { D.tells → IsStill (D.held disk.old) (D.pending disk.old) chosen }
-    ensures written { D.tells → OnOk result ((base : ℕ) → IsHeaded (D.held disk.old chosen) base → D.held disk.new chosen ≡ header_of base ++ closed_gate ∷ []) }
-    ensures still { D.tells → OnOk result (IsStill (D.held disk.new) (D.pending disk.new) chosen) }
-    ensures time { D.tells → (base : ℕ) → IsHeaded (D.held disk.old chosen) base → Moments D.clock D.may_leave disk.old disk.new (λ _. LeavesNone (D.pending disk.old) base) }
-    ensures others { D.tells → OthersStay (D.held disk.old) (D.held disk.new) (D.pending disk.old) (D.pending disk.new) }
-    ensures beside { D.beside disk.new ≡ D.beside disk.old }
-    ensures cause { HasCause (D.faults disk.old) (D.faults disk.new) result }
-    ensures fine { OnOk result (D.faults disk.new ≡ D.faults disk.old) }
+    ensures written { D.tells → OnOk result ((base : ℕ) → IsHeaded (D.held disk.old chosen) base
+        → D.held disk.new chosen ≡ header_of base ++ closed_gate ∷ []) }
+    ensures writes { D.tells → Writes D.clock D.may_leave D.held D.pending disk.old disk.new (IsOk result)
+        (λ images. (base : ℕ) → IsHeaded (D.held disk.old chosen) base → LeavesNone (D.pending disk.old) base images) }
+    ensures spares { Spares D.beside D.faults disk.old disk.new (IsErr result) }
 {
     put_still(disk, 16, &[CLOSED_GATE])
 }
@@ -83,13 +78,12 @@ fn put_gate<D: Disk>(disk: &mut D) -> Result<(), Failed>
 fn mend<D: Disk>(disk: &mut D, len: usize) -> Result<(), Failed>
     requires len { D.tells → len ≡ length (D.held disk.old chosen) }
     requires still { D.tells → IsStill (D.held disk.old) (D.pending disk.old) chosen }
-    ensures mended { D.tells → OnOk result ((base : ℕ) (entries : List Entry) → IsJournal (D.held disk.old chosen) base entries → IsMended (D.held disk.old chosen) base (D.held disk.new chosen)) }
-    ensures still { D.tells → OnOk result (IsStill (D.held disk.new) (D.pending disk.new) chosen) }
-    ensures time { D.tells → (base : ℕ) (entries : List Entry) → IsJournal (D.held disk.old chosen) base entries → Moments D.clock D.may_leave disk.old disk.new (λ _. LeavesMeaning (D.held disk.old) (D.pending disk.old)) }
-    ensures others { D.tells → OthersStay (D.held disk.old) (D.held disk.new) (D.pending disk.old) (D.pending disk.new) }
-    ensures beside { D.beside disk.new ≡ D.beside disk.old }
-    ensures cause { HasCause (D.faults disk.old) (D.faults disk.new) result }
-    ensures fine { OnOk result (D.faults disk.new ≡ D.faults disk.old) }
+    ensures mended { D.tells → OnOk result ((base : ℕ) (entries : List Entry)
+        → IsJournal (D.held disk.old chosen) base entries → IsMended (D.held disk.old chosen) base (D.held disk.new chosen)) }
+    ensures writes { D.tells → Writes D.clock D.may_leave D.held D.pending disk.old disk.new (IsOk result)
+        (λ images. (base : ℕ) (entries : List Entry) → IsJournal (D.held disk.old chosen) base entries
+            → LeavesMeaning (D.held disk.old) (D.pending disk.old) images) }
+    ensures spares { Spares D.beside D.faults disk.old disk.new (IsErr result) }
 {
     if len > 17 {
         return Ok(());
@@ -105,12 +99,9 @@ fn mend<D: Disk>(disk: &mut D, len: usize) -> Result<(), Failed>
 fn read_whole<D: Disk>(alloc: Global, disk: &mut D) -> Result<Vec<u8>, OpenFault>
     ensures bytes { D.tells → IfOk result (λ v. v.items ≡ D.held disk.old chosen) }
     ensures short { IfOk result (λ v. length v.items < end_of_lengths) }
-    ensures same { D.tells → Unchanged (D.held disk.old) (D.held disk.new) (D.pending disk.old) (D.pending disk.new) (D.clock disk.old) (D.may_leave disk.old) (D.may_leave disk.new) }
+    ensures same { D.tells → Unchanged D.clock D.may_leave D.held D.pending disk.old disk.new }
     ensures clock { D.clock disk.new ≡ D.clock disk.old }
-    ensures beside { D.beside disk.new ≡ D.beside disk.old }
-    ensures later { D.faults disk.old ≤ D.faults disk.new }
-    ensures disk { IsErrOf result OpenFault.Disk → Rose (D.faults disk.old) (D.faults disk.new) }
-    ensures fine { ¬ IsErrOf result OpenFault.Disk → D.faults disk.new ≡ D.faults disk.old }
+    ensures spares { Spares D.beside D.faults disk.old disk.new (IsErrOf result OpenFault.Disk) }
     ensures sound { (file : FileS) (at : ℕ) → ¬ IsErrOf result (NotAStore file at) }
 {
     let Ok(len) = disk.len(CHOSEN) else {
@@ -129,17 +120,18 @@ fn read_whole<D: Disk>(alloc: Global, disk: &mut D) -> Result<Vec<u8>, OpenFault
 // Opens a file that is still.
 fn open_still<G: Gather, D: Disk>(alloc: Global, disk: &mut D) -> Result<(Journal, G), OpenFault>
     requires { D.tells → IsStill (D.held disk.old) (D.pending disk.old) chosen }
-    ensures opened { IfOk result (λ r. (entries : List Entry) × G.is_of r.1 entries × StandsOn D.tells (D.held disk.new) (D.pending disk.new) r.0 entries × (D.tells → IsJournal (D.held disk.old chosen) r.0.base entries)) }
+    ensures opened { IfOk result (λ r. (entries : List Entry) × G.is_of r.1 entries
+        × StandsOn D.tells (D.held disk.new) (D.pending disk.new) r.0 entries
+        × (D.tells → IsJournal (D.held disk.old chosen) r.0.base entries)) }
     ensures mended { D.tells → IfOk result (λ r. IsMended (D.held disk.old chosen) r.0.base (D.held disk.new chosen)) }
-    ensures refused { D.tells → (file : FileS) (at : ℕ) → IsErrOf result (NotAStore file at) → (file ≡ chosen) × IsRefusal (D.held disk.old chosen) at × (D.held disk.new ≡ D.held disk.old) }
+    ensures refused { D.tells → (file : FileS) (at : ℕ) → IsErrOf result (NotAStore file at)
+        → (file ≡ chosen) × IsRefusal (D.held disk.old chosen) at × (D.held disk.new ≡ D.held disk.old) }
     ensures memory { D.tells → IsErrOf result OpenFault.Memory → D.held disk.new ≡ D.held disk.old }
     ensures synced { D.tells → ¬ IsErrOf result OpenFault.Disk → IsStill (D.held disk.new) (D.pending disk.new) chosen }
-    ensures time { D.tells → Moments D.clock D.may_leave disk.old disk.new (λ _. LeavesMeaning (D.held disk.old) (D.pending disk.old)) }
+    ensures time { D.tells → Moments D.clock D.may_leave disk.old disk.new
+        (λ _. LeavesMeaning (D.held disk.old) (D.pending disk.old)) }
     ensures others { D.tells → OthersStay (D.held disk.old) (D.held disk.new) (D.pending disk.old) (D.pending disk.new) }
-    ensures beside { D.beside disk.new ≡ D.beside disk.old }
-    ensures later { D.faults disk.old ≤ D.faults disk.new }
-    ensures disk { IsErrOf result OpenFault.Disk → Rose (D.faults disk.old) (D.faults disk.new) }
-    ensures fine { ¬ IsErrOf result OpenFault.Disk → D.faults disk.new ≡ D.faults disk.old }
+    ensures spares { Spares D.beside D.faults disk.old disk.new (IsErrOf result OpenFault.Disk) }
 {
     let bytes = match read_whole(alloc, disk) {
         Ok(bytes) => bytes,
@@ -168,18 +160,13 @@ pub fn open_journal_into<G: Gather, D: Disk>(
     alloc: Global,
     disk: &mut D,
 ) -> Result<(Journal, G), OpenFault>
-    ensures opened { IfOk result (λ r. (entries : List Entry) × G.is_of r.1 entries × StandsOn D.tells (D.held disk.new) (D.pending disk.new) r.0 entries × (D.tells → IsJournal (D.held disk.old chosen) r.0.base entries)) }
+    ensures opened { IfOk result (λ r. (entries : List Entry) × G.is_of r.1 entries
+        × StandsOn D.tells (D.held disk.new) (D.pending disk.new) r.0 entries
+        × (D.tells → IsJournal (D.held disk.old chosen) r.0.base entries)) }
     ensures mended { D.tells → IfOk result (λ r. IsMended (D.held disk.old chosen) r.0.base (D.held disk.new chosen)) }
-    ensures refused { D.tells → (file : FileS) (at : ℕ) → IsErrOf result (NotAStore file at) → (file ≡ chosen) × IsRefusal (D.held disk.old chosen) at × (D.held disk.new ≡ D.held disk.old) }
+    ensures opens { D.tells → Opens D.clock D.may_leave D.held D.pending disk.old disk.new result }
     ensures memory { D.tells → IsErrOf result OpenFault.Memory → D.held disk.new ≡ D.held disk.old }
-    ensures synced { D.tells → ¬ IsErrOf result OpenFault.Disk → IsStill (D.held disk.new) (D.pending disk.new) chosen }
-    ensures time { D.tells → OpensOver D.clock D.may_leave D.held D.pending (¬ IsErrOf result OpenFault.Disk) disk.old disk.new }
-    ensures still { D.tells → IsStill (D.held disk.old) (D.pending disk.old) chosen → Moments D.clock D.may_leave disk.old disk.new (λ _. LeavesMeaning (D.held disk.old) (D.pending disk.old)) }
-    ensures others { D.tells → OthersStay (D.held disk.old) (D.held disk.new) (D.pending disk.old) (D.pending disk.new) }
-    ensures beside { D.beside disk.new ≡ D.beside disk.old }
-    ensures later { D.faults disk.old ≤ D.faults disk.new }
-    ensures disk { IsErrOf result OpenFault.Disk → Rose (D.faults disk.old) (D.faults disk.new) }
-    ensures fine { ¬ IsErrOf result OpenFault.Disk → D.faults disk.new ≡ D.faults disk.old }
+    ensures spares { Spares D.beside D.faults disk.old disk.new (IsErrOf result OpenFault.Disk) }
 {
     match disk.sync(CHOSEN) {
         Ok(()) => open_still(alloc, disk),
@@ -193,16 +180,9 @@ pub fn open_journal<D: Disk>(alloc: Global, disk: &mut D) -> Result<(Journal, En
     ensures stands { IfOk result (λ r. StandsOn D.tells (D.held disk.new) (D.pending disk.new) r.0 r.1) }
     ensures means { D.tells → IfOk result (λ r. IsJournal (D.held disk.old chosen) r.0.base r.1) }
     ensures mended { D.tells → IfOk result (λ r. IsMended (D.held disk.old chosen) r.0.base (D.held disk.new chosen)) }
-    ensures refused { D.tells → (file : FileS) (at : ℕ) → IsErrOf result (NotAStore file at) → (file ≡ chosen) × IsRefusal (D.held disk.old chosen) at × (D.held disk.new ≡ D.held disk.old) }
+    ensures opens { D.tells → Opens D.clock D.may_leave D.held D.pending disk.old disk.new result }
     ensures memory { D.tells → IsErrOf result OpenFault.Memory → D.held disk.new ≡ D.held disk.old }
-    ensures synced { D.tells → ¬ IsErrOf result OpenFault.Disk → IsStill (D.held disk.new) (D.pending disk.new) chosen }
-    ensures time { D.tells → OpensOver D.clock D.may_leave D.held D.pending (¬ IsErrOf result OpenFault.Disk) disk.old disk.new }
-    ensures still { D.tells → IsStill (D.held disk.old) (D.pending disk.old) chosen → Moments D.clock D.may_leave disk.old disk.new (λ _. LeavesMeaning (D.held disk.old) (D.pending disk.old)) }
-    ensures others { D.tells → OthersStay (D.held disk.old) (D.held disk.new) (D.pending disk.old) (D.pending disk.new) }
-    ensures beside { D.beside disk.new ≡ D.beside disk.old }
-    ensures later { D.faults disk.old ≤ D.faults disk.new }
-    ensures disk { IsErrOf result OpenFault.Disk → Rose (D.faults disk.old) (D.faults disk.new) }
-    ensures fine { ¬ IsErrOf result OpenFault.Disk → D.faults disk.new ≡ D.faults disk.old }
+    ensures spares { Spares D.beside D.faults disk.old disk.new (IsErrOf result OpenFault.Disk) }
 {
     open_journal_into(alloc, disk)
 }

@@ -1,9 +1,8 @@
 //! Writing to the file of the journal, so that it is still again.
-ghost use Rattle.std.specs.Prelude.{◌≡◌, ◌≤◌, ◌<◌, ◌+◌, length, OnOk};
-ghost use Rattle.basis.specs.Counts.{HasCause};
-ghost use Rattle.disk.specs.Images.{Images, IsImage, IsStill, after_write, end_of_lengths, patched, resting};
-ghost use Rattle.disk.specs.Moments.{Moments};
-ghost use Rattle.object_journal.specs.Standing.{chosen, OthersStay, OthersMayBe, LeavesWrite};
+ghost use Rattle.std.specs.Prelude.{◌≡◌, ◌≤◌, ◌<◌, ◌+◌, length, IsOk, IsErr, OnOk};
+ghost use Rattle.disk.specs.Calls.{Spares};
+ghost use Rattle.disk.specs.Images.{IsStill, end_of_lengths, patched};
+ghost use Rattle.object_journal.specs.Standing.{chosen, LeavesWrite, Writes};
 
 use disk::{Disk, Failed, File};
 
@@ -16,13 +15,9 @@ pub(crate) fn put_still<D: Disk>(disk: &mut D, at: u64, bytes: &[u8]) -> Result<
     requires still { D.tells → IsStill (D.held disk.old) (D.pending disk.old) chosen }
     ensures written { D.tells → OnOk result (D.held disk.new chosen ≡ patched (D.held disk.old chosen) at bytes.now) }
     ensures short { OnOk result (at + length bytes.now < end_of_lengths) }
-    ensures still { D.tells → OnOk result (IsStill (D.held disk.new) (D.pending disk.new) chosen) }
-    ensures time { D.tells → Moments D.clock D.may_leave disk.old disk.new
-        (λ _. LeavesWrite (D.held disk.old) (D.pending disk.old) at (length bytes.now)) }
-    ensures others { D.tells → OthersStay (D.held disk.old) (D.held disk.new) (D.pending disk.old) (D.pending disk.new) }
-    ensures beside { D.beside disk.new ≡ D.beside disk.old }
-    ensures cause { HasCause (D.faults disk.old) (D.faults disk.new) result }
-    ensures fine { OnOk result (D.faults disk.new ≡ D.faults disk.old) }
+    ensures writes { D.tells → Writes D.clock D.may_leave D.held D.pending disk.old disk.new (IsOk result)
+        (LeavesWrite (D.held disk.old) (D.pending disk.old) at (length bytes.now)) }
+    ensures spares { Spares D.beside D.faults disk.old disk.new (IsErr result) }
 {
     disk.write_at(CHOSEN, at, bytes)?;
     disk.sync(CHOSEN)

@@ -4,12 +4,10 @@ use Rattle.std.specs.Prelude.{Result, Ok, Err, IfOk, OnOk, is_ok, true}
 use Rattle.std.proofs.lemmas.Bool.{false≢true}
 use Rattle.disk.specs.declared.file.File.{File}
 use Rattle.disk.specs.Images.{Pending, Images}
-use Rattle.disk.specs.Moments.{Moments}
-use Rattle.disk.specs.ImageLaws.{weaker}
 use Rattle.object_journal.specs.declared.entry.Entry.{Entry}
 use Rattle.object_journal.specs.declared.appending.Journal.{Journal}
 use Rattle.object_journal.specs.Journal.{MayFollow, revision_after}
-use Rattle.object_journal.specs.Standing.{StandsOn, LeavesEither}
+use Rattle.object_journal.specs.Standing.{StandsOn, LeavesEither, LeavesAppend}
 use Rattle.object_journal.specs.EntryLaws.{revision_more}
 use Rattle.object_store.specs.Records.{AreRecords}
 use Rattle.object_store.specs.Stores.{StoreRecord, HasEntries, MayCommit, LeavesRecords}
@@ -49,12 +47,11 @@ stands_inside tells held pending s j entries is h = subst (λ (k : Journal). Sta
 pub follows_inside : (s : StoreRecord) (j : Journal) (entries : List Entry) (f e : Entry) → j ≡ s.journal → f ≡ e → MayCommit s entries e → MayFollow j.base entries f
 follows_inside s j entries f e is framed may = subst (λ (p : Journal × Entry). MayFollow p.0.base entries p.1) (λ i. (sym is i, sym framed i)) may.follows
 
-pub commit_moments : {D : Type 0} (tells : Type 0) (clock : D → ℕ) (may_leave : D → ℕ → Images → Type 0) (held : D → Images) (pending : D → File → Pending) (old new : D) (s : StoreRecord) (j : Journal) (entries : List Entry) (f e : Entry)
-    → j ≡ s.journal → f ≡ e → HasEntries tells (held old) (pending old) s entries → MayCommit s entries e
-    → Moments clock may_leave old new (λ _. LeavesEither (pending old) j.base entries f) → Moments clock may_leave old new (λ _. LeavesRecords (pending old) s e)
-commit_moments tells clock may_leave held pending old new s j entries f e is framed h may m =
-    weaker clock may_leave old new (λ _. LeavesEither (pending old) j.base entries f) (λ _. LeavesRecords (pending old) s e)
-    (λ t i above le l. leaves_records (pending old) s entries e i h.stands.revision h.records may (subst (λ (p : Journal × Entry). LeavesEither (pending old) p.0.base entries p.1 i) (λ k. (is k, framed k)) l)) m
+pub leaves_commit : (tells : Type 0) (held : Images) (pending : File → Pending) (s : StoreRecord) (j : Journal) (entries : List Entry) (f e : Entry) (i : Images)
+    → j ≡ s.journal → f ≡ e → HasEntries tells held pending s entries → MayCommit s entries e → LeavesAppend tells held pending j f i → LeavesRecords pending s e i
+leaves_commit tells held pending s j entries f e i is framed h may w =
+    let either = w entries (stands_inside tells held pending s j entries is h) (follows_inside s j entries f e is framed may) in
+    leaves_records pending s entries e i h.stands.revision h.records may (subst (λ (p : Journal × Entry). LeavesEither pending p.0.base entries p.1 i) (λ k. (is k, framed k)) either)
 
 pub at_ok : {T E : Type 0} (r : Result T E) (P : Type 0) → is_ok r ≡ true → OnOk r P → P
 at_ok (Ok x) P ok p = p

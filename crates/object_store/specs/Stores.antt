@@ -1,14 +1,17 @@
 -- A store: what it holds, what it stands on, and the entry that a commit takes.
-use Rattle.std.specs.Prelude.{◌≡◌, ◌⊎◌, ℕ, ◌+◌, ◌≤◌, List, All, Contains, length}
+use Rattle.std.specs.Prelude.{◌≡◌, ◌⊎◌, ℕ, ◌+◌, ◌≤◌, List, All, Contains, length, Result, IsErrOf}
 use Rattle.disk.specs.declared.file.File.{File}
 use Rattle.disk.specs.Images.{Pending, Images}
+use Rattle.disk.specs.Moments.{Moments}
 use Rattle.object_journal.specs.declared.key.Key.{Key}
 use Rattle.object_journal.specs.declared.entry.Entry.{Entry}
 use Rattle.object_journal.specs.declared.entry.Change.{Change}
 use Rattle.object_journal.specs.declared.entry.Change.TheVariants.{Put, Removal}
 use Rattle.object_journal.specs.declared.appending.Journal.{Journal}
+use Rattle.object_journal.specs.declared.opening.OpenFault.{OpenFault}
+use Rattle.object_journal.specs.declared.opening.OpenFault.TheVariants.{Memory}
 use Rattle.object_journal.specs.Journal.{AreLawful, IsJournal, HasLawfulTexts, MayFollow, last_revision, most_keys, revision_after}
-use Rattle.object_journal.specs.Standing.{chosen, StandsOn, OthersMayBe, IsMended}
+use Rattle.object_journal.specs.Standing.{chosen, StandsOn, OthersMayBe, IsMended, IsUnsynced, Opens}
 use Rattle.object_store.specs.declared.item.Item.{Item}
 use Rattle.object_store.specs.Records.{AreRecords, HoldsKey, IsChanged, RecoversTo}
 
@@ -90,3 +93,13 @@ pub record MeanOne (old new : List ℕ) : Type 0 where
   pub first : IsJournal old base entries
   pub second : IsJournal new base entries
   pub mended : IsMended old base new
+
+-- How an opening of the store ends on a disk that tells: as that of its journal. Unless the first sync failed, a stop at
+-- each moment from its end on leaves the records that the file gave. Where memory runs out after the file was mended, it
+-- means what it meant.
+pub record OpensStore {D T : Type 0} (clock : D → ℕ) (may_leave : D → ℕ → Images → Type 0) (held : D → Images)
+    (pending : D → File → Pending) (old new : D) (result : Result T OpenFault) : Type 0 where
+  pub journal : Opens clock may_leave held pending old new result
+  pub records : IsUnsynced clock may_leave held pending old new
+      ⊎ Moments clock may_leave old new (λ _ images. KeepsRecords (held old chosen) (images chosen))
+  pub memory : IsErrOf result Memory → (held new ≡ held old) ⊎ MeanOne (held old chosen) (held new chosen)

@@ -1,12 +1,11 @@
 //! The map of records over the journal.
-ghost use Rattle.std.specs.Prelude.{◌≡◌, ◌↔◌, ◌⊎◌, ◌+◌, ◌≤◌, ◌<◌, ℕ, true, false, List, [], ◌∷◌, ◌++◌, length, IsTrue, IfOk, OnOk, OnErr, IfSome, IfNone, IsErrOf, Contains};
-ghost use Rattle.basis.specs.Counts.{HasCause};
-ghost use Rattle.disk.specs.Moments.{Moments};
+ghost use Rattle.std.specs.Prelude.{◌≡◌, ◌↔◌, ◌⊎◌, ◌+◌, ◌≤◌, ◌<◌, ℕ, true, false, List, [], ◌∷◌, ◌++◌, length, IsTrue, IsOk, IsErr, IfOk, OnOk, OnErr, IfSome, IfNone, IsErrOf, Contains};
+ghost use Rattle.disk.specs.Calls.{Spares};
 ghost use Rattle.object_journal.specs.declared.entry.Entry.{Entry as EntryS};
 ghost use Rattle.object_journal.specs.declared.appending.Journal.{Journal as JournalS};
 ghost use Rattle.object_journal.specs.Payload.{HasShortTexts, longest_payload, payload_of};
 ghost use Rattle.object_journal.specs.Journal.{HasLawfulTexts, last_revision, most_keys};
-ghost use Rattle.object_journal.specs.Standing.{chosen, OthersStay, appended};
+ghost use Rattle.object_journal.specs.Standing.{chosen, appended, Writes};
 ghost use Rattle.object_store.specs.declared.item.Item.{Item as ItemS};
 ghost use Rattle.object_store.specs.Records.{AreInKeyOrder, IsChanged, HoldsKey};
 ghost use Rattle.object_store.specs.Stores.{HaveLawfulTexts, Recalls, HasEntries, IsFull, IsPutOf, IsRemovalOf, MayCommit, LeavesRecords};
@@ -186,21 +185,24 @@ impl Store {
     /// new revision. Where the disk fails, the store has ended. No memory is taken.
     pub fn commit<D: Disk>(&mut self, ready: Ready, disk: &mut D) -> Result<u64, Failed>
         requires spare { self.old.spare ≡ 1 }
-        requires may { (entries : List EntryS) × HasEntries D.tells (D.held disk.old) (D.pending disk.old) self.old entries × MayCommit self.old entries ready }
+        requires may { (entries : List EntryS) × HasEntries D.tells (D.held disk.old) (D.pending disk.old) self.old entries
+            × MayCommit self.old entries ready }
         ensures ok { IfOk result (λ revision. revision ≡ ready.revision) }
         ensures changed { OnOk result (IsChanged self.old.items ready self.new.items) }
         ensures revision { OnOk result (self.new.journal.revision ≡ ready.revision) }
         ensures base { self.new.journal.base ≡ self.old.journal.base }
         ensures going { OnOk result (self.new.journal.ended ≡ false) }
-        ensures stands { OnOk result ((entries : List EntryS) → HasEntries D.tells (D.held disk.old) (D.pending disk.old) self.old entries → MayCommit self.old entries ready → HasEntries D.tells (D.held disk.new) (D.pending disk.new) self.new (entries ++ ready ∷ [])) }
-        ensures failed { OnErr result (self.new ≡ record self.old { journal = record self.old.journal { ended = true }; spare = 0 }) }
+        ensures stands { OnOk result ((entries : List EntryS)
+            → HasEntries D.tells (D.held disk.old) (D.pending disk.old) self.old entries → MayCommit self.old entries ready
+            → HasEntries D.tells (D.held disk.new) (D.pending disk.new) self.new (entries ++ ready ∷ [])) }
+        ensures failed { OnErr result (self.new ≡ record self.old {
+            journal = record self.old.journal { ended = true };
+            spare = 0 }) }
         ensures spare { self.new.spare ≡ 0 }
         ensures written { D.tells → OnOk result (D.held disk.new chosen ≡ appended (D.held disk.old chosen) self.old.journal.end ready) }
-        ensures time { D.tells → Moments D.clock D.may_leave disk.old disk.new (λ _. LeavesRecords (D.pending disk.old) self.old ready) }
-        ensures others { D.tells → OthersStay (D.held disk.old) (D.held disk.new) (D.pending disk.old) (D.pending disk.new) }
-        ensures beside { D.beside disk.new ≡ D.beside disk.old }
-        ensures cause { HasCause (D.faults disk.old) (D.faults disk.new) result }
-        ensures fine { OnOk result (D.faults disk.new ≡ D.faults disk.old) }
+        ensures writes { D.tells → Writes D.clock D.may_leave D.held D.pending disk.old disk.new (IsOk result)
+            (LeavesRecords (D.pending disk.old) self.old ready) }
+        ensures spares { Spares D.beside D.faults disk.old disk.new (IsErr result) }
     {
         self.spare = 0;
         self.journal.append(ready.framed(), disk)?;

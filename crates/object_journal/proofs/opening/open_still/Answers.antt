@@ -3,6 +3,7 @@ use Rattle.std.specs.Prelude.{Err}
 use Rattle.disk.specs.Images.{Images, end_of_lengths}
 use Rattle.object_journal.specs.Journal.{IsJournal, IsRefusal}
 use Rattle.object_journal.specs.Standing.{chosen, IsMended}
+use Rattle.disk.specs.ImageLaws.{weaker}
 use Rattle.object_journal.proofs.OpenLemmas.{read_on_moments, end_short, mended_gated, one_refusal}
 use Rattle.object_journal.proofs.opening.open_still.Goals as goal
 
@@ -19,7 +20,7 @@ returns-in_default-clause-time g c told =
     let base = c.in-Ok-read_journal.read.0.base in
     let all = c.in-Ok-read_journal.ensures.ok in
     let read : IsJournal (d.held c.read_whole.new.disk chosen) base all.entries = subst (λ (t : List ℕ). IsJournal t base all.entries) (c.as_slice.ensures.value ∙ c.in-Ok.ensures.bytes told ∙ ap (λ (h : Images). h chosen) (sym same.held)) all.whole.means in
-    read_on_moments d.clock d.may_leave d.held d.pending c.args.disk.now c.read_whole.new.disk c.mend.new.disk same c.in-Ok.ensures.clock (c.mend.ensures.time told base all.entries read)
+    read_on_moments d.clock d.may_leave d.held d.pending c.args.disk.now c.read_whole.new.disk c.mend.new.disk same c.in-Ok.ensures.clock (weaker d.clock d.may_leave c.read_whole.new.disk c.mend.new.disk _ _ (λ t i above le l. l base all.entries read) (c.mend.ensures.writes told).time)
 
 pub returns-clause-time : goal.returns-clause-time
 returns-clause-time g c told =
@@ -28,7 +29,7 @@ returns-clause-time g c told =
     let base = c.in-Ok-read_journal.read.0.base in
     let all = c.in-Ok-read_journal.ensures.ok in
     let read : IsJournal (d.held c.read_whole.new.disk chosen) base all.entries = subst (λ (t : List ℕ). IsJournal t base all.entries) (c.as_slice.ensures.value ∙ c.in-Ok.ensures.bytes told ∙ ap (λ (h : Images). h chosen) (sym same.held)) all.whole.means in
-    read_on_moments d.clock d.may_leave d.held d.pending c.args.disk.now c.read_whole.new.disk c.mend.new.disk same c.in-Ok.ensures.clock (c.mend.ensures.time told base all.entries read)
+    read_on_moments d.clock d.may_leave d.held d.pending c.args.disk.now c.read_whole.new.disk c.mend.new.disk same c.in-Ok.ensures.clock (weaker d.clock d.may_leave c.read_whole.new.disk c.mend.new.disk _ _ (λ t i above le l. l base all.entries read) (c.mend.ensures.writes told).time)
 
 pub returns-clause-opened : goal.returns-clause-opened
 returns-clause-opened g c =
@@ -48,7 +49,7 @@ returns-clause-opened g c =
         revision = whole.state.revision;
         end_is = whole.gate;
         short = end_short c.as_slice.result.now base entries place whole.means whole.gate short;
-        still = λ told. c.in-Ok-mend.ensures.still told;
+        still = λ told. (c.in-Ok-mend.ensures.writes told).still refl;
         gated = λ told.
             let same = c.in-Ok.ensures.same told in
             let read : IsJournal (d.held c.read_whole.new.disk chosen) base entries = subst (λ (t : List ℕ). IsJournal t base entries) (c.as_slice.ensures.value ∙ c.in-Ok.ensures.bytes told ∙ ap (λ (h : Images). h chosen) (sym same.held)) whole.means in

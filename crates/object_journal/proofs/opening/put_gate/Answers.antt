@@ -1,7 +1,9 @@
-use Rattle.object_journal.proofs.MendLemmas.{first_gate_moments}
+use Rattle.object_journal.proofs.MendLemmas.{leaves_none}
+use Rattle.object_journal.proofs.StopLemmas.{writes_so}
 use Rattle.object_journal.proofs.opening.put_gate.Goals as goal
 
-pub returns-clause-time : goal.returns-clause-time
-returns-clause-time g c told base headed =
+pub returns-clause-writes : goal.returns-clause-writes
+returns-clause-writes g c told =
     let d = g.D.Disk in
-    first_gate_moments d.clock d.may_leave d.held d.pending c.args.disk.now c.put_still.new.disk base headed (c.put_still.ensures.time told)
+    let old = c.args.disk.now in
+    writes_so d.clock d.may_leave d.held d.pending old c.put_still.new.disk _ _ _ _ (λ ok. ok) (λ i w. leaves_none (d.held old) (d.pending old) i w) (c.put_still.ensures.writes told)

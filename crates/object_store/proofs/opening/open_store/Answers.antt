@@ -1,13 +1,19 @@
-use Rattle.std.proofs.Common.{◌≡◌, ap, arith}
+use Rattle.std.proofs.Common.{◌≡◌, ap, arith, inl, inr}
 use Rattle.std.specs.Prelude.{Err}
-use Rattle.object_journal.specs.declared.opening.OpenFault.TheVariants.{NotAStore}
+use Rattle.object_journal.specs.declared.opening.OpenFault.TheVariants.{NotAStore, Disk, Memory}
+use Rattle.object_store.proofs.OpenLemmas.{opens_store}
 use Rattle.object_store.proofs.NextLemmas.{texts_of_records}
 use Rattle.object_store.proofs.opening.open_store.Goals as goal
 
-pub returns-in-Err-clause-refused : goal.returns-in-Err-clause-refused
-returns-in-Err-clause-refused g c told file at is =
-    let there : c.in-Err.fault ≡ NotAStore file at = cc in
-    c.in-Err.ensures.refused told file at (ap Err there)
+pub returns-in-Err-clause-opens : goal.returns-in-Err-clause-opens
+returns-in-Err-clause-opens g c told =
+    let d = g.D.Disk in
+    let e = c.in-Err.ensures in
+    opens_store d.clock d.may_leave d.held d.pending c.args.disk.now c.open_journal_into.new.disk (Err c.in-Err.fault) _
+    (λ file at is. let there : c.in-Err.fault ≡ NotAStore file at = cc in ap Err there)
+    (λ is. let there : c.in-Err.fault ≡ Disk = cc in ap Err there)
+    (λ is. let there : c.in-Err.fault ≡ Memory = cc in inl (e.memory told (ap Err there)))
+    (e.opens told)
 
 pub returns-in-Ok-listed-clause-recovered : goal.returns-in-Ok-listed-clause-recovered
 returns-in-Ok-listed-clause-recovered g c told =

@@ -1,31 +1,36 @@
-use Rattle.std.proofs.Common.{◌++◌, ◌∷◌, ◌∙◌, [], List, sym, ap, subst, arith}
+use Rattle.std.proofs.Common.{◌++◌, ◌∷◌, ◌∙◌, [], List, refl, sym, ap, subst, arith}
 use Rattle.object_journal.specs.declared.entry.Entry.{Entry}
 use Rattle.object_journal.specs.Journal.{HasLawfulTexts}
 use Rattle.object_journal.specs.Standing.{chosen, appended, StandsOn}
+use Rattle.object_journal.proofs.StopLemmas.{is_not_ok, writes_so}
 use Rattle.object_store.specs.declared.item.Item.{Item}
 use Rattle.object_store.specs.Records.{IsChanged}
 use Rattle.object_store.specs.Stores.{StoreRecord}
 use Rattle.object_store.proofs.NextLemmas.{records_changed, texts_changed}
-use Rattle.object_store.proofs.CommitLemmas.{stands_inside, follows_inside, commit_moments}
+use Rattle.object_store.proofs.CommitLemmas.{stands_inside, follows_inside, leaves_commit}
 use Rattle.object_store.proofs.store.Store.commit.Goals as goal
 
-pub returns-in_err-append-clause-time : goal.returns-in_err-append-clause-time
-returns-in_err-append-clause-time g c told =
+pub returns-in_err-append-clause-writes : goal.returns-in_err-append-clause-writes
+returns-in_err-append-clause-writes g c told =
     let d = g.D.Disk in
+    let old = c.args.disk.now in
     let s = c.args.self.now in
     let (entries, h, may) = c.requires.may in
     let journal = ap (λ (x : StoreRecord). x.journal) c.self.view_is in
-    commit_moments d.tells d.clock d.may_leave d.held d.pending c.args.disk.now c.append.new.disk s c.self.inside.journal entries c.framed.result.now c.args.ready journal c.framed.ensures h may
-    (c.append.ensures.time told entries (stands_inside d.tells (d.held c.args.disk.now) (d.pending c.args.disk.now) s c.self.inside.journal entries journal h) (follows_inside s c.self.inside.journal entries c.framed.result.now c.args.ready journal c.framed.ensures may))
+    writes_so d.clock d.may_leave d.held d.pending old c.append.new.disk _ _ _ _ (λ ok. absurd (is_not_ok _ c.from_residual.ensures.0 ok))
+    (λ i w. leaves_commit d.tells (d.held old) (d.pending old) s c.self.inside.journal entries c.framed.result.now c.args.ready i journal c.framed.ensures h may w)
+    (c.append.ensures.writes told)
 
-pub returns-clause-time : goal.returns-clause-time
-returns-clause-time g c told =
+pub returns-clause-writes : goal.returns-clause-writes
+returns-clause-writes g c told =
     let d = g.D.Disk in
+    let old = c.args.disk.now in
     let s = c.args.self.now in
     let (entries, h, may) = c.requires.may in
     let journal = ap (λ (x : StoreRecord). x.journal) c.self.view_is in
-    commit_moments d.tells d.clock d.may_leave d.held d.pending c.args.disk.now c.append.new.disk s c.self.inside.journal entries c.framed.result.now c.args.ready journal c.framed.ensures h may
-    (c.append.ensures.time told entries (stands_inside d.tells (d.held c.args.disk.now) (d.pending c.args.disk.now) s c.self.inside.journal entries journal h) (follows_inside s c.self.inside.journal entries c.framed.result.now c.args.ready journal c.framed.ensures may))
+    writes_so d.clock d.may_leave d.held d.pending old c.append.new.disk _ _ _ _ (λ ok. refl)
+    (λ i w. leaves_commit d.tells (d.held old) (d.pending old) s c.self.inside.journal entries c.framed.result.now c.args.ready i journal c.framed.ensures h may w)
+    (c.in_ok-append.ensures.writes told)
 
 pub invariant_of-self-2 : goal.invariant_of-self-2
 invariant_of-self-2 g c =
