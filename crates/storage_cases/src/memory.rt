@@ -1,0 +1,153 @@
+//! Cases of a disk in memory, which holds `x`, `abc` and nothing at first.
+
+use crate::calls::{Call, call_of, done_or_failed, number_at};
+use basis::Memory;
+use disk::{Disk, FailList, File, MemDisk};
+use minor_version::Blob;
+use std::alloc::Global;
+
+pub fn disk_of(alloc: Global, choice: &[u8], left: &[u8], fails: &[u64]) -> Result<MemDisk, Memory> {
+    let choice = Blob::copy(alloc, choice)?;
+    let left = Blob::copy(alloc, left)?;
+    let right = Blob::copy(alloc, b"")?;
+    let fail = FailList::new(alloc, fails)?;
+    Ok(MemDisk::new(alloc, choice, left, right, fail))
+}
+
+fn start(alloc: Global, fails: &str) -> Result<MemDisk, Memory> {
+    disk_of(
+        alloc,
+        b"x",
+        b"abc",
+        &[number_at(fails, 0), number_at(fails, 1)],
+    )
+}
+
+fn length(disk: &MemDisk, file: File) -> u64 {
+    disk.held_bytes(file).len() as u64
+}
+
+fn is_written(disk: &mut MemDisk, call: &Call<'_>) -> bool {
+    call.at <= length(disk, call.file) && disk.write_at(call.file, call.at, call.bytes).is_ok()
+}
+
+fn is_cut(disk: &mut MemDisk, call: &Call<'_>) -> bool {
+    call.at <= length(disk, call.file) && disk.cut(call.file, call.at).is_ok()
+}
+
+// Whether two bytes are read as they should.
+fn is_read(disk: &mut MemDisk, call: &Call<'_>) -> bool {
+    let mut two = [0; 2];
+    if length(disk, call.file) < 2 || call.at > length(disk, call.file) - 2 {
+        return false;
+    }
+    disk.read_at(call.file, call.at, &mut two).is_ok() && two.as_slice() == call.bytes
+}
+
+fn has_length(disk: &mut MemDisk, call: &Call<'_>) -> bool {
+    match disk.len(call.file) {
+        Ok(len) => len == call.at,
+        Err(_) => false,
+    }
+}
+
+fn is_done(disk: &mut MemDisk, call: &Call<'_>) -> bool {
+    match call.kind {
+        "write" => is_written(disk, call),
+        "cut" => is_cut(disk, call),
+        "sync" => disk.sync(call.file).is_ok(),
+        "read" => is_read(disk, call),
+        "len" => has_length(disk, call),
+        _ => false,
+    }
+}
+
+fn is_done_as_told(disk: &mut MemDisk, word: &str) -> bool {
+    match call_of(word) {
+        Some(call) => is_done(disk, &call),
+        None => false,
+    }
+}
+
+fn push(text: &mut String, part: &str) -> Result<(), Memory> {
+    match text.push_str(part) {
+        Ok(()) => Ok(()),
+        Err(_) => Err(Memory),
+    }
+}
+
+// What becomes of each call.
+fn push_calls(disk: &mut MemDisk, calls: &str, text: &mut String) -> Result<(), Memory> {
+    for word in calls.split(' ') {
+        let done = done_or_failed(is_done_as_told(disk, word));
+        match push(text, done) {
+            Ok(()) => {}
+            Err(memory) => return Err(memory),
+        }
+        match push(text, " ") {
+            Ok(()) => {}
+            Err(memory) => return Err(memory),
+        }
+    }
+    Ok(())
+}
+
+fn push_file(disk: &MemDisk, file: File, end: &str, text: &mut String) -> Result<(), Memory> {
+    push(text, str::from_utf8(disk.held_bytes(file)).unwrap_or("?"))?;
+    push(text, end)
+}
+
+fn push_files(disk: &MemDisk, text: &mut String) -> Result<(), Memory> {
+    push_file(disk, File::Choice, ",", text)?;
+    push_file(disk, File::Left, ",", text)?;
+    push_file(disk, File::Right, "|", text)
+}
+
+fn push_stop(disk: &MemDisk, t: u64, pick: u64, text: &mut String) -> Result<(), Memory> {
+    if disk.moment() < t {
+        return Ok(());
+    }
+    let stopped = disk.after_stop(t, pick)?;
+    push_files(&stopped, text)
+}
+
+fn push_stops(disk: &MemDisk, pick: u64, text: &mut String) -> Result<(), Memory> {
+    for t in 0..disk.moment().saturating_add(1) {
+        match push_stop(disk, t, pick, text) {
+            Ok(()) => {}
+            Err(memory) => return Err(memory),
+        }
+    }
+    Ok(())
+}
+
+fn make_calls(alloc: Global, disk: &mut MemDisk, calls: &str) -> Result<String, Memory> {
+    let mut text = String::new(alloc);
+    push_calls(disk, calls, &mut text)?;
+    disk.pass();
+    push_files(disk, &mut text)?;
+    Ok(text)
+}
+
+/// What becomes of each call where those with these numbers fail, and what the files hold then.
+pub fn answers(alloc: Global, case: &str) -> Result<String, Memory> {
+    let (fails, calls) = case.split_once(' ').unwrap_or((case, ""));
+    let mut disk = start(alloc, fails)?;
+    make_calls(alloc, &mut disk, calls)
+}
+
+fn stop_after(alloc: Global, disk: &mut MemDisk, pick: u64, calls: &str) -> Result<String, Memory> {
+    let mut text = String::new(alloc);
+    push_calls(disk, calls, &mut text)?;
+    text.clear();
+    push_stops(disk, pick, &mut text)?;
+    Ok(text)
+}
+
+/// What a stop leaves at each moment of the calls, for a pick.
+pub fn stops(alloc: Global, case: &str) -> Result<String, Memory> {
+    let (pick, rest) = case.split_once(' ').unwrap_or((case, ""));
+    let (fails, calls) = rest.split_once(' ').unwrap_or((rest, ""));
+    let mut disk = start(alloc, fails)?;
+    stop_after(alloc, &mut disk, pick.parse::<u64>().unwrap_or(0), calls)
+}
