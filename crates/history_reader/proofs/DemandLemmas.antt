@@ -44,7 +44,7 @@ shaped_str : (P : List ℕ → Type 0) (o : Option (List ℕ)) (t : List ℕ) �
 shaped_str P None t h e = absurd h
 shaped_str P (Some s) t h e = let same : s ≡ t = cc in subst P same h
 
-some_if : (P : List ℕ → Type 0) (o : Option (List ℕ)) → IsSomeAnd o P → IfSome o P
+some_if : {A : Type 0} (P : A → Type 0) (o : Option A) → IsSomeAnd o P → IfSome o P
 some_if P None h = tt
 some_if P (Some t) h = h
 
@@ -53,7 +53,7 @@ pub shaped_text : (P : List ℕ → Type 0) (o : Option Data) (t u : List ℕ) �
 shaped_text P None t u h e same = absurd h
 shaped_text P (Some d) t u h e same = subst P (sym same) (shaped_str P (as_str d) t h e)
 
--- the same of a member that may be missing
-pub shaped_optional : (P : List ℕ → Type 0) (o : Option Data) (found : Option (List ℕ)) → IfSome o (λ d. IsSomeAnd (as_str d) P) → option_and_then as_str o ≡ found → IfSome found P
-shaped_optional P None found h e = subst (λ (f : Option (List ℕ)). IfSome f P) e tt
-shaped_optional P (Some d) found h e = subst (λ (f : Option (List ℕ)). IfSome f P) e (some_if P (as_str d) h)
+-- the same of a member that may be missing, and of what else than a text it holds
+pub shaped_optional : {A : Type 0} (f : Data → Option A) (P : A → Type 0) (o : Option Data) (found : Option A) → IfSome o (λ d. IsSomeAnd (f d) P) → option_and_then f o ≡ found → IfSome found P
+shaped_optional {A} f P None found h e = subst (λ (g : Option A). IfSome g P) e tt
+shaped_optional {A} f P (Some d) found h e = subst (λ (g : Option A). IfSome g P) e (some_if P (f d) h)

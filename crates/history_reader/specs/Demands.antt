@@ -9,7 +9,7 @@ use Rattle.lifecycle.specs.Version.{IsVersion}
 use Rattle.fields.specs.Table.{IsPath}
 use Rattle.fields.specs.declared.field.Form.{Form}
 use Rattle.fields.specs.declared.value.FieldType.{FieldType}
-use Rattle.schemas.specs.Shapes.{IsGateName, IsGroup, IsResource, IsKind, IsFieldId}
+use Rattle.schemas.specs.Shapes.{IsGateName, IsGroup, IsResource, IsKind, IsFieldId, IsScalar}
 use Rattle.history_reader.specs.Words.{type_word, form_word, path_in, scalar_in}
 use Rattle.history_reader.specs.declared.demand.Shape.{Shape}
 use Rattle.history_reader.specs.declared.demand.Shape.TheVariants.{Release, GateName, StageWord, Flag, OnlyTrue, GroupName, VersionWord, ResourceName, KindName, EventWord, FieldId, TypeWord, PathText, FormWord, Scalar, Tables}
@@ -67,7 +67,7 @@ TextHasShape Tables = λ _. ⊥
 abbrev pub HasShape : Shape → Data → Type 0
 HasShape Flag d = IsSome (as_bool d)
 HasShape OnlyTrue d = as_bool d ≡ Some true
-HasShape Scalar d = IsSome (scalar_in d)
+HasShape Scalar d = IsSomeAnd (scalar_in d) IsScalar
 HasShape Tables d = IsSomeAnd (as_array d) AreTables
 HasShape shape d = IsSomeAnd (as_str d) (TextHasShape shape)
 

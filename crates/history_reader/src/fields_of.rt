@@ -2,7 +2,7 @@
 ghost use Rattle.std.specs.Prelude.{◌≡◌, IfOk, IfSome, IsSome, IsSomeAnd, option_and_then, unwrap_or};
 ghost use Rattle.toml.specs.Data.{get_member};
 ghost use Rattle.toml.specs.View.{table_view};
-ghost use Rattle.schemas.specs.Shapes.{IsShapedField, IsShapedSpell};
+ghost use Rattle.schemas.specs.Shapes.{IsScalar, IsShapedField, IsShapedSpell};
 ghost use Rattle.history_reader.specs.Demands.{IsTypeWord, IsFormWord};
 ghost use Rattle.history_reader.specs.Names.{member_name};
 ghost use Rattle.history_reader.specs.Rows.{field_rows, spell_rows};
@@ -51,7 +51,8 @@ fn form_of(table: &Table, member: Member) -> Form
 
 /// The value of a member that is missing or holds one.
 fn scalar_of(alloc: Global, table: &Table, member: Member) -> Result<Option<FieldValue>, Memory>
-    ensures { IfOk result (λ found. option_and_then scalar (get_member (member_name member) (table_view table.now)) ≡ found) }
+    ensures value { IfOk result (λ found. option_and_then scalar (get_member (member_name member) (table_view table.now)) ≡ found) }
+    ensures shaped { IfOk result (λ found. IfSome found IsScalar) }
 {
     match value_of(table, member) {
         Some(value) => scalar_in(alloc, value),

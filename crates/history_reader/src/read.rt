@@ -4,6 +4,7 @@ ghost use Rattle.std.specs.List.{AllByRecursion};
 ghost use Rattle.toml.specs.View.{table_view};
 ghost use Rattle.toml.specs.Data.{get_member};
 ghost use Rattle.history_reader.specs.declared.demand.Shape.{Shape as TheShape};
+ghost use Rattle.schemas.specs.Shapes.{IsMinor};
 ghost use Rattle.history_reader.specs.Names.{member_name};
 ghost use Rattle.history_reader.specs.Demands.{HasShape};
 ghost use Rattle.history_reader.specs.Tests.{Passes, document_tests};
@@ -69,7 +70,8 @@ impl Error for HistoryFault {}
 /// The release of a member that is missing or holds its text.
 fn optional_release(table: &Table, member: Member) -> Option<Minor>
     requires { IfSome (get_member (member_name member) (table_view table.now)) (HasShape TheShape.Release) }
-    ensures { HoldsRelease (member_name member) (table_view table.now) result }
+    ensures held { HoldsRelease (member_name member) (table_view table.now) result }
+    ensures shaped { IfSome result IsMinor }
 {
     match value_of(table, member) {
         Some(_) => Some(release_of(table, member)),

@@ -1,8 +1,9 @@
 //! The words of types and forms, paths as texts, and values that stand in a document.
-ghost use Rattle.std.specs.Prelude.{◌≡◌, ◌↔◌, IsTrue, IfOk, IsSome, All, MatchOption, length, map};
+ghost use Rattle.std.specs.Prelude.{◌≡◌, ◌↔◌, IsTrue, IfOk, IfSome, IsSomeAnd, All, MatchOption, length, map};
 ghost use Rattle.basis.specs.Names.{BeginsLower, IsLetterOrDigit};
 ghost use Rattle.toml.specs.View.{view};
 ghost use Rattle.fields.specs.Table.{IsPath};
+ghost use Rattle.schemas.specs.Shapes.{IsScalar};
 ghost use Rattle.history_reader.specs.Demands.{IsTypeWord, IsFormWord};
 ghost use Rattle.history_reader.specs.Words.{type_word, form_word, path_in as path_parts, scalar_in as scalar};
 
@@ -93,14 +94,26 @@ pub fn path_in(alloc: Global, text: &str) -> Result<Path, Memory>
 
 /// Whether the value is a boolean, a whole number or a text.
 pub fn is_scalar(value: &Value) -> bool
-    ensures { IsTrue result ↔ IsSome (scalar (view value.now)) }
+    ensures { IsTrue result ↔ IsSomeAnd (scalar (view value.now)) IsScalar }
 {
-    value.is_bool() || value.is_integer() || value.is_str()
+    match value {
+        Value::Boolean(_) => true,
+        Value::Integer(number) => {
+            let _number = *number;
+            true
+        }
+        Value::String(text) => {
+            let _text = text.as_str();
+            true
+        }
+        _ => false,
+    }
 }
 
 /// The value of a field that a boolean, a whole number or a text is, or none for another value.
 pub fn scalar_in(alloc: Global, value: &Value) -> Result<Option<FieldValue>, Memory>
-    ensures { IfOk result (λ found. found ≡ scalar (view value.now)) }
+    ensures value { IfOk result (λ found. found ≡ scalar (view value.now)) }
+    ensures shaped { IfOk result (λ found. IfSome found IsScalar) }
 {
     match value {
         Value::Boolean(flag) => Ok(Some(FieldValue::Bool(*flag))),

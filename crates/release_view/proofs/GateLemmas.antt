@@ -4,7 +4,7 @@ use Rattle.std.specs.Prelude.{find, nat_le, unwrap_or}
 use Rattle.std.specs.Option.{option_and_then}
 use Rattle.std.specs.Str.{bytes_eq}
 use Rattle.std.proofs.lemmas.Bool.{false≢true}
-use Rattle.std.proofs.lemmas.List.Elements.{All-from_recursion, All-filter, All-contains, Contains-get_or}
+use Rattle.std.proofs.lemmas.List.Elements.{All-from_recursion, All-weaker, All-filter, All-contains, Contains-get_or}
 use Rattle.std.proofs.lemmas.Option.{slice_get-get_or}
 use Rattle.std.proofs.lemmas.Slice.Eq.{bytes_eq-Decides}
 use Rattle.basis.proofs.ElementLemmas.{Any-from}
@@ -45,7 +45,8 @@ module _ (h : Dated) (shaped : IsShaped h) (accepted : IsAccepted h) (e : ℕ) (
   fits = All-filter (λ x. nat_le x.since e) (λ x. IsFitSpec x.change) h.gates (λ k d below. accepted.gates_fit_stages k (get_or h.gates k d) (slice_get-get_or h.gates k d below))
 
   names : All (λ x. IsGateName x.name) tables
-  names = All-filter (λ x. nat_le x.since e) (λ x. IsGateName x.name) h.gates (All-from_recursion IsShapedGate h.gates shaped.gates)
+  names = All-filter (λ x. nat_le x.since e) (λ x. IsGateName x.name) h.gates
+      (All-weaker IsShapedGate (λ x. IsGateName x.name) (λ x s. s.name) h.gates (All-from_recursion IsShapedGate h.gates shaped.gates))
 
   one_default : (name : List ℕ) (s t : Stage) (a b l m : Bool) → IsFoundIn tables name s a l → IsFoundIn tables name t b m → (a ≡ b) × (l ≡ m)
   one_default name s t a b l m p q =

@@ -132,10 +132,10 @@ fair_stable : (all : List ApiEntry) (x : ApiEntry) (change : ApiChange) → IsVe
 fair_stable all x (Introduced kind singular namespaced enabled) v shape = stable_holds
 fair_stable all x (Deprecated removal replacement) v shape = λ h. record {
   own = v.0;
-  other = shape.0;
+  other = shape.1.0;
   own_word = (v.1, v.2);
-  other_word = (shape.1, shape.2);
-  fair = between_stable all x removal replacement v.0.level shape.0.level (λ no. h (λ (d : IsFairDeprecation all x removal replacement). no (levels_of all x removal replacement v.0 shape.0 (v.1, v.2) (shape.1, shape.2) d)));
+  other_word = (shape.1.1, shape.1.2);
+  fair = between_stable all x removal replacement v.0.level shape.1.0.level (λ no. h (λ (d : IsFairDeprecation all x removal replacement). no (levels_of all x removal replacement v.0 shape.1.0 (v.1, v.2) (shape.1.1, shape.1.2) d)));
 }
 fair_stable all x Removed v shape = stable_holds
 fair_stable all x Forgotten v shape = stable_holds

@@ -4,6 +4,7 @@ pub mod DecisionLemmas
 pub mod LawLemmas
 pub mod DecodableLemmas
 pub mod FieldLawLemmas
+pub mod SpelledRows
 pub mod RowLemmas
 pub mod FieldStabilityLemmas
 pub mod JoinLemmas

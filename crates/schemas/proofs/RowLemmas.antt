@@ -17,8 +17,9 @@ use Rattle.std.proofs.lemmas.Map.Views.{tells_apart}
 use Rattle.std.proofs.lemmas.Option.{slice_get_within, slice_get-get_or, get_or_from_slice_get}
 use Rattle.std.proofs.lemmas.Slice.Eq.{bytes_eq-Decides}
 use Rattle.basis.proofs.OrderLemmas.{one_in_order}
+use Rattle.fields.specs.Fits.{AreOfSameFields, AreOneButOn}
 use Rattle.fields.specs.Order.{Rises}
-use Rattle.fields.specs.Table.{IsFieldPath, AreApart, IsFormOf, IsDefaultOf, IsLawfulRow}
+use Rattle.fields.specs.Table.{IsFieldPath, AreApart, AreLawful, IsFormOf, IsDefaultOf, IsLawfulRow}
 use Rattle.fields.specs.declared.field.Field.{Field}
 use Rattle.fields.specs.declared.field.Spell.{Spell}
 use Rattle.fields.specs.declared.table.FieldRow.{FieldRow}
@@ -29,9 +30,9 @@ use Rattle.lifecycle.specs.Entry.{GroupVersionResource}
 use Rattle.schemas.specs.Cutoff.{fields_by, spells_by}
 use Rattle.schemas.specs.Dated.{Dated, IsShaped}
 use Rattle.schemas.specs.FieldRules.{is_of_resource}
-use Rattle.schemas.specs.Laws.{IsDecodable, IsSpelledOnceBy, RowsAreLawful, EachFieldHasRow, RowsAreAlike}
+use Rattle.schemas.specs.Laws.{IsDecodable, IsSpelledOnceBy, RowsAreLawful, IsThere, EachFieldHasRow, RowsAreAlike, AreThoseThere, RowsAreKept}
 use Rattle.schemas.specs.Pairs.{IsOfField, IsSpelling}
-use Rattle.schemas.specs.Rows.{IsSpelledAs, IsSpelledRow, SpellFields}
+use Rattle.schemas.specs.Rows.{IsSpelledAs, AreRowsAt}
 use Rattle.schemas.specs.Rules.{IsAccepted}
 use Rattle.schemas.specs.Shapes.{IsShapedSpell}
 use Rattle.schemas.specs.SpellRules.{FitsType}
@@ -39,6 +40,7 @@ use Rattle.schemas.proofs.FieldLawLemmas.{each_at, one_field, turned, paths_apar
 use Rattle.schemas.proofs.LawLemmas.{any_stands}
 use Rattle.schemas.proofs.PlaceLemmas.{some_injective}
 use Rattle.schemas.proofs.PreviousLemmas.{entry_at}
+use Rattle.schemas.proofs.SpelledRows.{IsSpelledRow, SpellFields, spelled_rows, row_of, test_decided}
 
 -- the field and the spelling that a row gives
 record Given (h : Dated) (e : ℕ) (name : GroupVersionResource) (row : FieldRow) : Type 0 where
@@ -49,6 +51,7 @@ record Given (h : Dated) (e : ℕ) (name : GroupVersionResource) (row : FieldRow
   pub spot : ℕ
   pub spell : Spell
   pub spell_stands : slice_get h.spells spot ≡ Some spell
+  pub spelled : spell.since ≤ e
   pub spelling : IsSpelling field name spell
   pub given : IsSpelledAs field spell row
 
@@ -71,6 +74,7 @@ given h e name row any =
       spot = spell.0.0;
       spell = inner.1;
       spell_stands = spell.0.1;
+      spelled = leb-true inner.1.since e spell.1;
       spelling = inner.4.0;
       given = inner.4.1;
     }
@@ -194,9 +198,10 @@ rows_few h lawful e name (row ∷ more) spell =
     let there : length known ≡ length (filter (is_of_resource first.field) h.fields) = length-map (filter (is_of_resource first.field) h.fields) (λ f. f.id) in
     omega (arith, fewer, here, there, few)
 
--- ---- the laws
+-- ---- the laws, of rows without a word on which are on
 
-pub rows_lawful : (h : Dated) → IsAccepted h → IsShaped h → RowsAreLawful h
+pub rows_lawful : (h : Dated) → IsAccepted h → IsShaped h → (name : GroupVersionResource) (e : ℕ) (rows : List FieldRow)
+    → SpellFields (fields_by h.fields e) (spells_by h.spells e) name rows → AreLawful rows
 rows_lawful h lawful shaped = λ (name : GroupVersionResource) (e : ℕ) (rows : List FieldRow) (spell : SpellFields (fields_by h.fields e) (spells_by h.spells e) name rows). record {
   few = rows_few h lawful e name rows spell;
   each = λ k d below. lawful_row h lawful shaped e name (get_or rows k d) (given h e name (get_or rows k d) (spell.each k d below));
@@ -212,7 +217,9 @@ rows_lawful h lawful shaped = λ (name : GroupVersionResource) (e : ℕ) (rows :
 stands_by : {X : Type 0} (p : X → Bool) (xs : List X) (i : ℕ) (x : X) → slice_get xs i ≡ Some x → p x ≡ true → Contains (filter p xs) x
 stands_by p xs i x stands passes = Contains-filter p xs x (i, slice_get_within xs i x stands, get_or_from_slice_get xs i x x stands) passes
 
-pub each_has_row : (h : Dated) → IsAccepted h → EachFieldHasRow h
+each_has_row : (h : Dated) → IsAccepted h → (name : GroupVersionResource) (e i : ℕ) (f : Field) (rows : List FieldRow)
+    → IsDecodable h.apis name e → SpellFields (fields_by h.fields e) (spells_by h.spells e) name rows
+    → slice_get h.fields i ≡ Some f → f.group ≡ name.group → f.resource ≡ name.resource → f.since ≤ e → Any (λ row. row.id ≡ f.id) rows
 each_has_row h lawful = λ (name : GroupVersionResource) (e i : ℕ) (f : Field) (rows : List FieldRow) (is_decodable : IsDecodable h.apis name e) (spell : SpellFields (fields_by h.fields e) (spells_by h.spells e) name rows) (stands : slice_get h.fields i ≡ Some f) (group : f.group ≡ name.group) (resource : f.resource ≡ name.resource) (by : f.since ≤ e).
     let spelled : IsSpelledOnceBy e h.spells f name = decodable_spelled h lawful name e i f is_decodable stands group resource by in
     let P : Spell → Type 0 = λ s. IsSpelling f name s × (s.since ≤ e) in
@@ -232,7 +239,10 @@ ids_among h lawful name other e (row ∷ more) others group resource is_decodabl
 abbrev types : List FieldRow → List FieldType
 types rows = map (λ r. r.ty) rows
 
-pub rows_alike : (h : Dated) → IsAccepted h → RowsAreAlike h
+pub rows_alike : (h : Dated) → IsAccepted h → (name other : GroupVersionResource) (e : ℕ) (rows others : List FieldRow)
+    → name.group ≡ other.group → name.resource ≡ other.resource → IsDecodable h.apis name e → IsDecodable h.apis other e
+    → SpellFields (fields_by h.fields e) (spells_by h.spells e) name rows → SpellFields (fields_by h.fields e) (spells_by h.spells e) other others
+    → AreOfSameFields rows others
 rows_alike h lawful = λ (name other : GroupVersionResource) (e : ℕ) (rows others : List FieldRow) (group : name.group ≡ other.group) (resource : name.resource ≡ other.resource) (one : IsDecodable h.apis name e) (two : IsDecodable h.apis other e) (spell : SpellFields (fields_by h.fields e) (spells_by h.spells e) name rows) (also : SpellFields (fields_by h.fields e) (spells_by h.spells e) other others).
     let same_ids : ids rows ≡ ids others = one_in_order (slice_cmp nat_cmp) nat_list_cmp_total (ids rows) (ids others) spell.order also.order (λ id. (ids_among h lawful name other e rows others group resource two spell also id, ids_among h lawful other name e others rows (sym group) (sym resource) one also spell id)) in
     let size : length rows ≡ length others = sym (length-map rows (λ r. r.id)) ∙ ap length same_ids ∙ length-map others (λ r. r.id) in
@@ -251,3 +261,102 @@ rows_alike h lawful = λ (name other : GroupVersionResource) (e : ℕ) (rows oth
           let same : a.field ≡ b.field = same_field h lawful e name other row.0 another.0 group resource same_id a b in
           get_or-map (λ r. r.ty) rows k row.0 BoolType low ∙ ap (λ (r : FieldRow). r.ty) row_is ∙ a.given.ty ∙ ap (λ (f : Field). f.ty) same ∙ sym (get_or-map (λ r. r.ty) others k another.0 BoolType also_low ∙ ap (λ (r : FieldRow). r.ty) another_is ∙ b.given.ty));
     }
+
+-- ---- the same of the rows at a release
+
+pub spelled_at : (h : Dated) (is_on : List ℕ → Bool) (name : GroupVersionResource) (e : ℕ) (rows : List FieldRow)
+    → AreRowsAt h is_on name e rows → SpellFields (fields_by h.fields e) (spells_by h.spells e) name rows
+spelled_at h is_on name e rows are =
+    spelled_rows (λ gate. IsTrue (is_on gate)) (test_decided is_on) (fields_by h.fields e) (spells_by h.spells e) name rows are
+
+pub lawful_at : (h : Dated) → IsAccepted h → IsShaped h → RowsAreLawful h
+lawful_at h lawful shaped = λ is_on name e rows are. rows_lawful h lawful shaped name e rows (spelled_at h is_on name e rows are)
+
+pub row_at : (h : Dated) → IsAccepted h → EachFieldHasRow h
+row_at h lawful = λ is_on name e f rows decodes are there is.
+    each_has_row h lawful name e there.0 f rows decodes (spelled_at h is_on name e rows are)
+    (slice_get-get_or h.fields there.0 f there.1 ∙ ap Some there.2) is.group is.resource is.dated
+
+pub alike_at : (h : Dated) → IsAccepted h → RowsAreAlike h
+alike_at h lawful = λ is_on also_on name other e rows others group resource one two are also.
+    rows_alike h lawful name other e rows others group resource one two (spelled_at h is_on name e rows are) (spelled_at h also_on other e others also)
+
+-- ---- the rows of an earlier release
+
+-- what a row gives is there in the history
+holds_field : (h : Dated) (e : ℕ) (name : GroupVersionResource) (row : FieldRow) (g : Given h e name row) → Contains h.fields g.field
+holds_field h e name row g =
+    (g.place, slice_get_within h.fields g.place g.field g.field_stands, get_or_from_slice_get h.fields g.place g.field g.field g.field_stands)
+
+holds_spell : (h : Dated) (e : ℕ) (name : GroupVersionResource) (row : FieldRow) (g : Given h e name row) → Contains h.spells g.spell
+holds_spell h e name row g =
+    (g.spot, slice_get_within h.spells g.spot g.spell g.spell_stands, get_or_from_slice_get h.spells g.spot g.spell g.spell g.spell_stands)
+
+given_at : (h : Dated) (is_on : List ℕ → Bool) (name : GroupVersionResource) (e : ℕ) (rows : List FieldRow) → AreRowsAt h is_on name e rows
+    → (row : FieldRow) → Contains rows row → Given h e name row
+given_at h is_on name e rows are row there =
+    given h e name row (All-contains (IsSpelledRow (fields_by h.fields e) (spells_by h.spells e) name) rows row (spelled_at h is_on name e rows are).each there)
+
+-- the row of a field and a spelling that are there by the release
+made_at : (h : Dated) (is_on : List ℕ → Bool) (name : GroupVersionResource) (e : ℕ) (rows : List FieldRow) → AreRowsAt h is_on name e rows
+    → (f : Field) (s : Spell) → Contains h.fields f → Contains h.spells s → f.since ≤ e → s.since ≤ e → IsSpelling f name s
+    → (row : FieldRow) × Contains rows row × IsSpelledAs f s row
+made_at h is_on name e rows are f s has_field has_spell dated spelled is =
+    row_of (λ gate. IsTrue (is_on gate)) (test_decided is_on) (fields_by h.fields e) (spells_by h.spells e) name rows are f s
+    (Contains-filter (λ g. nat_le g.since e) h.fields f has_field (le-leb f.since e dated))
+    (Contains-filter (λ t. nat_le t.since e) h.spells s has_spell (le-leb s.since e spelled)) is
+
+one_but_on : (f : Field) (s : Spell) (row other : FieldRow) → IsSpelledAs f s row → IsSpelledAs f s other → AreOneButOn row other
+one_but_on f s row other a b = record {
+  id = a.id ∙ sym b.id;
+  ty = a.ty ∙ sym b.ty;
+  required = a.required ∙ sym b.required;
+  path = a.path ∙ sym b.path;
+  form = a.form ∙ sym b.form;
+  default = a.default ∙ sym b.default;
+}
+
+-- the field has one spelling in the version, which is there once the field and the version are
+there_by : (h : Dated) → IsAccepted h → (name : GroupVersionResource) (m e : ℕ) (row : FieldRow) → IsDecodable h.apis name m
+    → (g : Given h e name row) → g.field.since ≤ m → g.spell.since ≤ m
+there_by h lawful name m e row decodes g dated =
+    let once : IsSpelledOnceBy m h.spells g.field name = decodable_spelled h lawful name m g.place g.field decodes g.field_stands
+        (g.spelling.0.group ∙ sym g.spelling.1.group) (g.spelling.0.resource ∙ sym g.spelling.1.resource) dated in
+    let P : Spell → Type 0 = λ s. IsSpelling g.field name s × (s.since ≤ m) in
+    let some : Any P h.spells = once.some in
+    let stands : slice_get h.spells some.0 ≡ Some some.1 = any_stands P h.spells some in
+    let place : some.0 ≡ g.spot = once.one some.0 g.spot some.1 g.spell stands g.spell_stands some.4.0 g.spelling in
+    let same : some.1 ≡ g.spell = some_injective some.1 g.spell (sym stands ∙ ap (slice_get h.spells) place ∙ g.spell_stands) in
+    subst (λ (s : Spell). s.since ≤ m) same some.4.1
+
+pub kept_at : (h : Dated) → IsAccepted h → RowsAreKept h
+kept_at h lawful = λ (is_on also_on : List ℕ → Bool) (name : GroupVersionResource) (m e : ℕ) (rows others : List FieldRow) (later : m ≤ e) (decodes : IsDecodable h.apis name m) (are : AreRowsAt h is_on name m rows) (also : AreRowsAt h also_on name e others). record {
+  less = λ k d below.
+      let row : FieldRow = get_or rows k d in
+      let g : Given h m name row = given h m name row ((spelled_at h is_on name m rows are).each k d below) in
+      let dated : g.field.since ≤ m = g.dated in
+      let spelled : g.spell.since ≤ m = g.spelled in
+      let made = made_at h also_on name e others also g.field g.spell (holds_field h m name row g) (holds_spell h m name row g) (omega arith) (omega arith) g.spelling in
+      (made.1.0, made.0, made.1.1, made.1.2, one_but_on g.field g.spell row made.0 g.given made.2);
+  exact = λ (row : FieldRow) (there : Contains others row).
+      let g : Given h e name row = given_at h also_on name e others also row there in
+      (
+        λ (some : Any (λ f. IsThere name m f × (f.id ≡ row.id)) h.fields).
+            let f : Field = some.1 in
+            let is : IsThere name m f = some.4.0 in
+            let group : f.group ≡ g.field.group = is.group ∙ g.spelling.1.group ∙ sym g.spelling.0.group in
+            let resource : f.resource ≡ g.field.resource = is.resource ∙ g.spelling.1.resource ∙ sym g.spelling.0.resource in
+            let id : f.id ≡ g.field.id = some.4.1 ∙ g.given.id in
+            let stands : slice_get h.fields some.0 ≡ Some f = any_stands (λ f. IsThere name m f × (f.id ≡ row.id)) h.fields some in
+            let same : f ≡ g.field = one_field h lawful some.0 g.place f g.field stands g.field_stands
+                (record { group = sym group; resource = sym resource; id = sym id }) (record { group = group; resource = resource; id = id }) in
+            let dated : g.field.since ≤ m = subst (λ (x : Field). x.since ≤ m) same is.dated in
+            let made = made_at h is_on name m rows are g.field g.spell (holds_field h e name row g) (holds_spell h e name row g) dated (there_by h lawful name m e row decodes g dated) g.spelling in
+            (made.1.0, made.0, made.1.1, made.1.2, one_but_on g.field g.spell made.0 row made.2 g.given),
+        λ (some : Any (λ r. AreOneButOn r row) rows).
+            let b : Given h m name some.1 = given_at h is_on name m rows are some.1 (some.0, some.2, some.3) in
+            let is : IsThere name m b.field = record { group = b.spelling.0.group ∙ sym b.spelling.1.group; resource = b.spelling.0.resource ∙ sym b.spelling.1.resource; dated = b.dated } in
+            let held = holds_field h m name some.1 b in
+            (held.0, b.field, held.1, held.2, (is, sym b.given.id ∙ some.4.id)),
+      );
+}

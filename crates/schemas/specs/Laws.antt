@@ -1,6 +1,6 @@
 -- What follows from the rules, for those who build on accepted histories.
-use Rattle.std.specs.Prelude.{ℕ, ◌≡◌, ◌↔◌, ◌+◌, ◌<◌, ◌≤◌, true, List, Some, Any, slice_get}
-use Rattle.fields.specs.Fits.{AreOfSameFields}
+use Rattle.std.specs.Prelude.{ℕ, ◌≡◌, ◌↔◌, ◌+◌, ◌<◌, ◌≤◌, Bool, true, List, Some, Any, Contains, slice_get}
+use Rattle.fields.specs.Fits.{AreOfSameFields, AreOneButOn, KnowsLess}
 use Rattle.fields.specs.Table.{AreApart, AreLawful}
 use Rattle.fields.specs.declared.field.Field.{Field}
 use Rattle.fields.specs.declared.field.Spell.{Spell}
@@ -12,11 +12,10 @@ use Rattle.lifecycle.specs.declared.entry.ApiEntry.{ApiEntry}
 use Rattle.schemas.specs.declared.array.Array.{Array}
 use Rattle.schemas.specs.Dated.{Dated}
 use Rattle.schemas.specs.ApiRules.{name_of}
-use Rattle.schemas.specs.Cutoff.{fields_by, spells_by}
 use Rattle.schemas.specs.FieldRules.{IsSpelledThroughout}
 use Rattle.schemas.specs.Pairs.{IsSpelling, AreForOneVersion}
 use Rattle.schemas.specs.Places.{Each}
-use Rattle.schemas.specs.Rows.{SpellFields}
+use Rattle.schemas.specs.Rows.{AreRowsAt}
 use Rattle.schemas.specs.SpellRules.{SpellsPairOnce}
 use Rattle.schemas.specs.Rules.{IsAccepted, IsUnbroken, checks, IsFirstFault}
 
@@ -84,13 +83,37 @@ PathsAreApart spells = (i j : ℕ) (s t : Spell) → i < j → slice_get spells 
 
 -- the rows of a version at a release are lawful
 abbrev pub RowsAreLawful : Dated → Type 0
-RowsAreLawful h = (name : GroupVersionResource) (e : ℕ) (rows : List FieldRow) → SpellFields (fields_by h.fields e) (spells_by h.spells e) name rows → AreLawful rows
+RowsAreLawful h = (is_on : List ℕ → Bool) (name : GroupVersionResource) (e : ℕ) (rows : List FieldRow)
+    → AreRowsAt h is_on name e rows → AreLawful rows
+
+-- the field is one of the version's resource, and there at the release
+pub record IsThere (name : GroupVersionResource) (e : ℕ) (f : Field) : Type 0 where
+  pub group : f.group ≡ name.group
+  pub resource : f.resource ≡ name.resource
+  pub dated : f.since ≤ e
 
 -- in a version that is decodable at a release, each field of its resource that is there by then has a row
 abbrev pub EachFieldHasRow : Dated → Type 0
-EachFieldHasRow h = (name : GroupVersionResource) (e i : ℕ) (f : Field) (rows : List FieldRow) → IsDecodable h.apis name e → SpellFields (fields_by h.fields e) (spells_by h.spells e) name rows → slice_get h.fields i ≡ Some f → f.group ≡ name.group → f.resource ≡ name.resource → f.since ≤ e → Any (λ row. row.id ≡ f.id) rows
+EachFieldHasRow h = (is_on : List ℕ → Bool) (name : GroupVersionResource) (e : ℕ) (f : Field) (rows : List FieldRow)
+    → IsDecodable h.apis name e → AreRowsAt h is_on name e rows
+    → Contains h.fields f → IsThere name e f → Any (λ row. row.id ≡ f.id) rows
 
 -- two versions of a resource that are decodable at a release have rows of the same fields
 abbrev pub RowsAreAlike : Dated → Type 0
-RowsAreAlike h = (name other : GroupVersionResource) (e : ℕ) (rows others : List FieldRow) → name.group ≡ other.group → name.resource ≡ other.resource → IsDecodable h.apis name e → IsDecodable h.apis other e
-    → SpellFields (fields_by h.fields e) (spells_by h.spells e) name rows → SpellFields (fields_by h.fields e) (spells_by h.spells e) other others → AreOfSameFields rows others
+RowsAreAlike h = (is_on also_on : List ℕ → Bool) (name other : GroupVersionResource) (e : ℕ) (rows others : List FieldRow)
+    → name.group ≡ other.group → name.resource ≡ other.resource
+    → IsDecodable h.apis name e → IsDecodable h.apis other e
+    → AreRowsAt h is_on name e rows → AreRowsAt h also_on other e others → AreOfSameFields rows others
+
+-- the rows are those of the others whose fields are there at the release, but for which of them are on
+pub record AreThoseThere (fields : List Field) (name : GroupVersionResource) (m : ℕ) (rows others : List FieldRow) : Type 0 where
+  pub less : KnowsLess rows others
+  pub exact : (row : FieldRow) → Contains others row
+      → Any (λ f. IsThere name m f × (f.id ≡ row.id)) fields ↔ Any (λ r. AreOneButOn r row) rows
+
+-- a version that is decodable at a release has, at each later one, the rows that it has there, but for which of them are
+-- on, and beside them those of fields that come later
+abbrev pub RowsAreKept : Dated → Type 0
+RowsAreKept h = (is_on also_on : List ℕ → Bool) (name : GroupVersionResource) (m e : ℕ) (rows others : List FieldRow)
+    → m ≤ e → IsDecodable h.apis name m → AreRowsAt h is_on name m rows → AreRowsAt h also_on name e others
+    → AreThoseThere h.fields name m rows others

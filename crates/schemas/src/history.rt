@@ -12,7 +12,7 @@ pub type GateList = Sequence<GateEntry>;
 pub type ApiList = Sequence<ApiEntry>;
 
 /// A release history: dated entries, each list in document order, and the first and the last release of which they
-/// speak. Its type keeps that each text has the shape of its member.
+/// speak. Its type keeps that all it holds has the shape of its member in a document.
 #[derive(Debug, Drop)]
 pub struct History {
     pub first: Option<Minor>,

@@ -1,6 +1,6 @@
 //! What follows from the rules, each as the contract of a function that does nothing.
 ghost use Rattle.schemas.specs.Rules.{IsAccepted};
-ghost use Rattle.schemas.specs.Laws.{GatesRise, IsIntroducedOnce, KindsStayLive, HasOneFirstFault, IsJoined, ArePairsKept, LiveStaysDecodable, DecodableIsSpelled, PathsAreApart, RowsAreLawful, EachFieldHasRow, RowsAreAlike};
+ghost use Rattle.schemas.specs.Laws.{GatesRise, IsIntroducedOnce, KindsStayLive, HasOneFirstFault, IsJoined, ArePairsKept, LiveStaysDecodable, DecodableIsSpelled, PathsAreApart, RowsAreLawful, EachFieldHasRow, RowsAreAlike, RowsAreKept};
 ghost use Rattle.std.specs.Prelude.{◌↔◌};
 ghost use Rattle.schemas.specs.Pairs.{AreSpelledOnce};
 
@@ -89,6 +89,14 @@ pub fn each_field_has_row(h: &History)
 /// The versions of a resource that are decodable at a release have rows of the same fields (by HR11 and HR14).
 pub fn rows_are_alike(h: &History)
     ensures { IsAccepted h.now → RowsAreAlike h.now }
+{
+    let _history = h;
+}
+
+/// A version that is decodable at a release has, at each later one, the rows that it has there, but for which of them are
+/// on, and beside them those of fields that come later (by HR6, HR11 and HR14).
+pub fn rows_are_kept(h: &History)
+    ensures { IsAccepted h.now → RowsAreKept h.now }
 {
     let _history = h;
 }

@@ -1,5 +1,5 @@
-use Rattle.schemas.proofs.RowLemmas.{each_has_row}
+use Rattle.schemas.proofs.RowLemmas.{row_at}
 use Rattle.schemas.proofs.laws.each_field_has_row.Goals as goal
 
 pub returns : goal.returns
-returns c = each_has_row c.args.h.now
+returns c = row_at c.args.h.now
