@@ -4,7 +4,8 @@ use Rattle.disk.specs.declared.file.File.{File}
 use Rattle.disk.specs.declared.log.Entry.{Entry}
 use Rattle.disk.specs.declared.log.Change.{Change}
 use Rattle.disk.specs.Images.{Pending, Within, IsImage, Images, Each, same_file, at_file, Becomes, OthersHold}
-use Rattle.disk.specs.ImageLaws.{within_image, within_refl, same_file_refl}
+use Rattle.disk.specs.ImageLaws.{within_image}
+use Rattle.disk.proofs.ImageLemmas.{within_refl, same_file_refl}
 use Rattle.disk.specs.Moments.{Elapses}
 use Rattle.disk.specs.Slots.{file_of}
 use Rattle.disk.specs.MemDisk.{State, resting_state, step, replay, MemRecord, state_at, mem_held, mem_pending, mem_may_leave, InPast}

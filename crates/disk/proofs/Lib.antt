@@ -1,4 +1,5 @@
 pub mod CallLemmas
+pub mod ImageLemmas
 pub mod MemLemmas
 pub mod PatchLemmas
 pub mod TraitLemmas

@@ -7,7 +7,8 @@ use Rattle.disk.specs.declared.log.Entry.{Entry}
 use Rattle.disk.specs.declared.log.Change.{Change}
 use Rattle.disk.specs.declared.log.Change.TheVariants.{Wrote, WriteFailed, Cut, CutFailed, Synced}
 use Rattle.disk.specs.Images.{Pending, IsImage, Images, resting, end_of_lengths, after_write, after_cut, same_file, OthersHold, patched}
-use Rattle.disk.specs.ImageLaws.{same_file_refl, reached_later}
+use Rattle.disk.specs.ImageLaws.{reached_later}
+use Rattle.disk.proofs.ImageLemmas.{same_file_refl}
 use Rattle.disk.specs.Slots.{Three, file_of}
 use Rattle.disk.specs.MemDisk.{State, resting_state, step, entered, replay, state_in, MemRecord, state_at, mem_held, InPast, KeepsHeld}
 use Rattle.disk.specs.MemLaws.{IsGood}

@@ -3,7 +3,7 @@ use Rattle.std.proofs.Common.{◌≡◌, ◌⊎◌, inl, inr, ⊎_elim, ℕ, ◌
 use Rattle.std.proofs.lemmas.List.{get_or-take, get_or-drop, get_or_append_left, get_or-append_right, get_or_past, drop_all}
 use Rattle.std.proofs.Math.Seq.{take-append_seam}
 use Rattle.disk.specs.Images.{patched}
-use Rattle.disk.specs.ImageLaws.{patch_is}
+use Rattle.disk.proofs.ImageLemmas.{patch_is}
 
 below_or_past : (k n : ℕ) → (k < n) ⊎ (n ≤ k)
 below_or_past k n = grind arith

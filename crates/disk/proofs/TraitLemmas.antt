@@ -6,7 +6,8 @@ use Rattle.disk.specs.declared.file.File.{File}
 use Rattle.disk.specs.declared.log.Change.{Change}
 use Rattle.disk.specs.declared.log.Change.TheVariants.{Wrote, WriteFailed, Cut, CutFailed, Synced}
 use Rattle.disk.specs.Images.{Pending, Within, IsImage, Images, Each, IsStill, resting, end_of_lengths, after_write, after_cut, same_file, OthersWithin, patched}
-use Rattle.disk.specs.ImageLaws.{within_image, within_refl, within_write, within_cut, resting_image, still_image}
+use Rattle.disk.specs.ImageLaws.{within_image, within_write, within_cut, resting_image}
+use Rattle.disk.proofs.ImageLemmas.{within_refl, still_image}
 use Rattle.disk.specs.Moments.{Elapses}
 use Rattle.disk.specs.MemDisk.{State, resting_state, step, MemRecord, state_at, mem_held, mem_pending, mem_may_leave, InPast, KeepsHeld, IsListed, called, ticked, blamed, hungry, noted, HasFailed, IsWriteCall, IsCutCall, IsSyncCall}
 use Rattle.disk.specs.MemLaws.{replay_good, mem_held_now}

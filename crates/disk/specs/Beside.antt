@@ -8,8 +8,8 @@ pub data FrontEvent : Type 0 where
   Closed : (c : ℕ) → FrontEvent
   End : FrontEvent
 
--- a reply that was sent: the moment, the number of events taken before it, the connection, the bytes, whether it was the last of its
--- connection, and whether it went
+-- a reply that was sent: the moment, the number of events taken before it, the connection, the bytes, whether it was
+-- the last of its connection, and whether it went
 pub record Sent : Type 0 where
   pub at : ℕ
   pub seen : ℕ
@@ -18,8 +18,8 @@ pub record Sent : Type 0 where
   pub last : Bool
   pub went : Bool
 
--- the front's count of faults, and the value it had after the last send; the connections opened so far; the sends that room was made for;
--- the events taken and those to come; the sends
+-- the front's count of faults, and the value it had after the last send; the connections opened so far; the sends that
+-- room was made for; the events taken and those to come; the sends
 pub record Beside : Type 0 where
   pub front_faults : ℕ
   pub send_mark : ℕ

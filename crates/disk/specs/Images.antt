@@ -3,15 +3,16 @@ use Rattle.std.specs.Prelude.{◌≡◌, ℕ, ◌+◌, ◌^◌, ◌≤◌, ◌<�
 use Rattle.disk.specs.declared.file.File.{File}
 use Rattle.disk.specs.declared.file.File.TheVariants.{Choice, Left, Right}
 
--- the bytes at the last good sync; the least and the greatest length since; the places that a write covered since, or a cut went to or below
+-- the bytes at the last good sync; the least and the greatest length since; the places that a write covered since, or a
+-- cut went to or below
 pub record Pending : Type 0 where
   pub base : List ℕ
   pub least : ℕ
   pub greatest : ℕ
   pub free : ℕ → Bool
 
--- An image has any length that the file may have had, and the bytes of the last good sync where nothing was done to them. All other bytes
--- are any bytes.
+-- An image has any length that the file may have had, and the bytes of the last good sync where nothing was done to
+-- them. All other bytes are any bytes.
 pub record IsImage (p : Pending) (image : List ℕ) : Type 0 where
   pub no_shorter : p.least ≤ length image
   pub no_longer : length image ≤ p.greatest

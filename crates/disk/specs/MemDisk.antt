@@ -53,8 +53,8 @@ abbrev pub InPast : ℕ → List Entry → Type 0
 InPast clock [] = Unit {0}
 InPast clock (e ∷ es) = (e.moment ≤ clock) × InPast clock es
 
--- what the files held at first and what was done to them; the clock; the counts of faults, of calls that found no memory, and of all calls;
--- the numbers of the calls that fail
+-- what the files held at first and what was done to them; the clock; the counts of faults, of calls that found no
+-- memory, and of all calls; the numbers of the calls that fail
 pub record MemRecord : Type 0 where
   pub first : Three
   pub log : List Entry
@@ -101,16 +101,16 @@ noted d file change = record d { log = d.log ++ record { moment = d.clock; file 
 abbrev pub IsListed : MemRecord → Type 0
 IsListed d = Contains d.fails (counted d.calls)
 
--- A call that failed: at the end of the clock; for want of memory; or since it is listed or is a write that would reach too far, and then
--- it is recorded so.
+-- A call that failed: at the end of the clock; for want of memory; or since it is listed or is a write that would reach
+-- too far, and then it is recorded so.
 abbrev pub HasFailed : MemRecord → MemRecord → Type 0 → (MemRecord → MemRecord) → Type 0
 HasFailed old new TooFar recorded =
     ((old.clock ≡ 2 ^ 64 - 1) × (new ≡ blamed (called old)))
     ⊎ (new ≡ hungry (ticked (called old)))
     ⊎ ((IsListed old ⊎ TooFar) × (new ≡ blamed (recorded (ticked (called old)))))
 
--- A call that may change a file: what it does where it is good, and where it fails. At the end of the clock, where it is listed or would
--- reach too far, it fails.
+-- A call that may change a file: what it does where it is good, and where it fails. At the end of the clock, where it
+-- is listed or would reach too far, it fails.
 pub record IsCall (old new : MemRecord) (TooFar : Type 0) (good bad : MemRecord → MemRecord) (result : Result Unit Failed) : Type 0 where
   pub ok : OnOk result (new ≡ good (ticked (called old)))
   pub err : OnErr result (HasFailed old new TooFar bad)
@@ -119,7 +119,8 @@ pub record IsCall (old new : MemRecord) (TooFar : Type 0) (good bad : MemRecord 
 
 abbrev pub IsWriteCall : MemRecord → MemRecord → File → ℕ → List ℕ → Result Unit Failed → Type 0
 IsWriteCall old new file at bytes result =
-    IsCall old new (end_of_lengths ≤ at + length bytes) (λ d. noted d file (Wrote at bytes)) (λ d. noted d file (WriteFailed at (length bytes))) result
+    IsCall old new (end_of_lengths ≤ at + length bytes)
+    (λ d. noted d file (Wrote at bytes)) (λ d. noted d file (WriteFailed at (length bytes))) result
 
 abbrev pub IsCutCall : MemRecord → MemRecord → File → ℕ → Result Unit Failed → Type 0
 IsCutCall old new file to result = IsCall old new ⊥ (λ d. noted d file (Cut to)) (λ d. noted d file (CutFailed to)) result

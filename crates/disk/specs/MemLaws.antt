@@ -16,7 +16,8 @@ use Rattle.disk.specs.Slots.{file_of}
 abbrev pub IsGood : State → Type 0
 IsGood s = IsImage s.pending s.held
 
-wrote_good : (at : ℕ) (bytes : List ℕ) (s : State) → IsGood s → at ≤ length s.held → at + length bytes < end_of_lengths → IsImage (after_write at (length bytes) s.pending) (patched s.held at bytes)
+wrote_good : (at : ℕ) (bytes : List ℕ) (s : State) → IsGood s → at ≤ length s.held
+    → at + length bytes < end_of_lengths → IsImage (after_write at (length bytes) s.pending) (patched s.held at bytes)
 wrote_good at bytes s h le short =
     let new = patched s.held at bytes in
     let p = patch s.held at bytes new le refl in
@@ -37,7 +38,8 @@ cut_good to s h =
     record {
       no_shorter = omega (arith, size, h.no_shorter);
       no_longer = omega (arith, size, h.no_longer);
-      same = λ k base long closed. get_or-take to s.held k 0 (omega (arith, size, long)) ∙ h.same k base (omega (arith, size, long)) (or_parts (s.pending.free k) (nat_le to k) closed).0;
+      same = λ k base long closed. get_or-take to s.held k 0 (omega (arith, size, long))
+          ∙ h.same k base (omega (arith, size, long)) (or_parts (s.pending.free k) (nat_le to k) closed).0;
     }
 
 if_good : (b : Bool) (x y : State) → (b ≡ true → IsGood x) → IsGood y → IsGood (if b then x else y)
@@ -57,7 +59,8 @@ step_good Synced s h = resting_image s.held
 
 pub replay_good : (t : ℕ) (f : File) (es : List Entry) (s : State) → IsGood s → IsGood (replay t f es s)
 replay_good t f [] s h = h
-replay_good t f (e ∷ es) s h = replay_good t f es (entered t f e s) (if_good (nat_le e.moment t && same_file f e.file) (step e.change s) s (λ _. step_good e.change s h) h)
+replay_good t f (e ∷ es) s h = replay_good t f es (entered t f e s)
+    (if_good (nat_le e.moment t && same_file f e.file) (step e.change s) s (λ _. step_good e.change s h) h)
 
 pub mem_held_now : (d : MemRecord) → mem_may_leave d d.clock (mem_held d)
 mem_held_now d f = replay_good d.clock f d.log (resting_state (file_of d.first f)) (resting_image (file_of d.first f))

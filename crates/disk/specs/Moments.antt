@@ -14,15 +14,16 @@ pub record Elapses (before now : ℕ) (past present : ℕ → Images → Type 0)
 abbrev pub Moments : {D : Type 0} → (D → ℕ) → (D → ℕ → Images → Type 0) → D → D → (ℕ → Images → Type 0) → Type 0
 Moments clock may_leave old new Added = Elapses (clock old) (clock new) (may_leave old) (may_leave new) Added
 
--- The clock of a call that writes, cuts or syncs: a u64, which rises by one. So each moment is the state after one call. At its greatest
--- value the clock stays, and the call fails.
+-- The clock of a call that writes, cuts or syncs: a u64, which rises by one. So each moment is the state after one
+-- call. At its greatest value the clock stays, and the call fails.
 pub record Ticks {T E : Type 0} (before now : ℕ) (result : Result T E) : Type 0 where
   pub later : before ≤ now
   pub by_one : now ≡ counted before
   pub ends : before ≡ 2 ^ 64 - 1 → IsErr result
 
 -- a call that changes nothing of the files and of what a stop may leave
-pub record Unchanged {D : Type 0} (clock : D → ℕ) (may_leave : D → ℕ → Images → Type 0) (held_by : D → Images) (pending_on : D → File → Pending) (old new : D) : Type 0 where
+pub record Unchanged {D : Type 0} (clock : D → ℕ) (may_leave : D → ℕ → Images → Type 0) (held_by : D → Images)
+    (pending_on : D → File → Pending) (old new : D) : Type 0 where
   pub held : held_by new ≡ held_by old
   pub pending : pending_on new ≡ pending_on old
   pub kept : (t : ℕ) (images : Images) → t ≤ clock old → may_leave new t images ↔ may_leave old t images

@@ -15,7 +15,8 @@ pub record IsPicked (pick : ℕ) (s : State) (image : List ℕ) : Type 0 where
   pub kept : pick ≡ 1 → image ≡ s.held
   pub filled : 1 < pick → IsFilled (pick % 256) s.pending image
 
--- what is left while the calls of a file are gone through: its bytes at the last good sync, or those with what is free filled
+-- what is left while the calls of a file are gone through: its bytes at the last good sync, or those with what is free
+-- filled
 pub record IsLeft (pick : ℕ) (p : Pending) (left : List ℕ) : Type 0 where
   pub lost : pick ≤ 1 → left ≡ p.base
   pub filled : 1 < pick → IsFilled (pick % 256) p left

@@ -43,7 +43,8 @@ pub trait Disk {
     /// Fills `into` with the bytes of the file from `at` on. After `Failed` the content of `into` is unknown.
     fn read_at(&mut self, file: File, at: u64, into: &mut [u8]) -> Result<(), Failed>
         requires { tells → at + length into.old ≤ length (held self.old file) }
-        ensures bytes { tells → OnOk result (into.new ≡ take (length into.old) (drop at (held self.old file))) }
+        ensures bytes { tells → OnOk result (into.new
+            ≡ take (length into.old) (drop at (held self.old file))) }
         ensures same { tells → Unchanged clock may_leave held pending self.old self.new }
         ensures clock { clock self.new ≡ clock self.old }
         ensures spares { Spares beside faults self.old self.new (IsErr result) };
@@ -52,29 +53,35 @@ pub trait Disk {
     /// one and the one that `Ok` would give. A write that would reach the end of lengths fails and leaves the content.
     fn write_at(&mut self, file: File, at: u64, bytes: &[u8]) -> Result<(), Failed>
         requires { tells → at ≤ length (held self.old file) }
-        ensures written { tells → OnOk result (held self.new file ≡ patched (held self.old file) at bytes.now) }
+        ensures written { tells → OnOk result (held self.new file
+            ≡ patched (held self.old file) at bytes.now) }
         ensures short { OnOk result (at + length bytes.now < end_of_lengths) }
-        ensures failed { tells → OnErr result (IsImage (after_write at (length bytes.now) (resting (held self.old file))) (held self.new file)) }
-        ensures too_far { tells → end_of_lengths ≤ at + length bytes.now → held self.new file ≡ held self.old file }
+        ensures failed { tells → OnErr result
+            (IsImage (after_write at (length bytes.now) (resting (held self.old file))) (held self.new file)) }
+        ensures too_far { tells → end_of_lengths ≤ at + length bytes.now → held self.new file
+            ≡ held self.old file }
         ensures others { tells → OthersHold file (held self.old) (held self.new) }
         ensures pending { tells → Becomes file (after_write at (length bytes.now)) (pending self.old) (pending self.new) }
         ensures time { tells → Moments clock may_leave self.old self.new
             (λ _. Each (at_file file (after_write at (length bytes.now)) (pending self.old))) }
         ensures clock { Ticks (clock self.old) (clock self.new) result }
-        ensures at_end { tells → clock self.old ≡ 2 ^ 64 - 1 → Unchanged clock may_leave held pending self.old self.new }
+        ensures at_end { tells → clock self.old ≡ 2 ^ 64 - 1
+            → Unchanged clock may_leave held pending self.old self.new }
         ensures spares { Spares beside faults self.old self.new (IsErr result) };
 
     /// Shortens the file. After `Failed` it is as it was or shortened.
     fn cut(&mut self, file: File, to: u64) -> Result<(), Failed>
         requires { tells → to ≤ length (held self.old file) }
         ensures shortened { tells → OnOk result (held self.new file ≡ take to (held self.old file)) }
-        ensures failed { tells → OnErr result ((held self.new file ≡ held self.old file) ⊎ (held self.new file ≡ take to (held self.old file))) }
+        ensures failed { tells → OnErr result ((held self.new file ≡ held self.old file)
+            ⊎ (held self.new file ≡ take to (held self.old file))) }
         ensures others { tells → OthersHold file (held self.old) (held self.new) }
         ensures pending { tells → Becomes file (after_cut to) (pending self.old) (pending self.new) }
         ensures time { tells → Moments clock may_leave self.old self.new
             (λ _. Each (at_file file (after_cut to) (pending self.old))) }
         ensures clock { Ticks (clock self.old) (clock self.new) result }
-        ensures at_end { tells → clock self.old ≡ 2 ^ 64 - 1 → Unchanged clock may_leave held pending self.old self.new }
+        ensures at_end { tells → clock self.old ≡ 2 ^ 64 - 1
+            → Unchanged clock may_leave held pending self.old self.new }
         ensures spares { Spares beside faults self.old self.new (IsErr result) };
 
     /// Makes the file still. After `Failed` what was pending is pending.
@@ -86,7 +93,8 @@ pub trait Disk {
         ensures time { tells → Moments clock may_leave self.old self.new
             (λ _. Each (pending self.old)) }
         ensures clock { Ticks (clock self.old) (clock self.new) result }
-        ensures at_end { tells → clock self.old ≡ 2 ^ 64 - 1 → Unchanged clock may_leave held pending self.old self.new }
+        ensures at_end { tells → clock self.old ≡ 2 ^ 64 - 1
+            → Unchanged clock may_leave held pending self.old self.new }
         ensures spares { Spares beside faults self.old self.new (IsErr result) };
 
     /// Each image of the present is one of those that the model describes.

@@ -12,6 +12,7 @@ use crate::disk::Disk;
 use crate::failed::Failed;
 use crate::file::File;
 use crate::slots::fits;
+use basis::Memory;
 use std::alloc::Global;
 use std::error::Error;
 use std::fs::{Metadata, OpenFile, OpenOptions};
@@ -30,10 +31,10 @@ pub enum AtFault {
 
 impl fmt::Display for AtFault {
     fn fmt<W: fmt::Write>(&self, f: &mut fmt::Formatter<W>) -> fmt::Result {
-        f.write_str(match self {
-            AtFault::Failed => "the disk failed",
-            AtFault::Memory => "out of memory",
-        })
+        match self {
+            AtFault::Failed => f.write_str("the disk failed"),
+            AtFault::Memory => Memory.fmt(f),
+        }
     }
 }
 

@@ -10,8 +10,6 @@ mod log;
 mod mem_disk;
 mod slots;
 mod stop;
-#[cfg(test)]
-mod tests;
 
 pub use disk::Disk;
 pub use fail_list::FailList;

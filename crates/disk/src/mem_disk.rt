@@ -43,7 +43,15 @@ impl Model for MemDisk {
 
     ghost Value = { MemRecord };
 
-    ghost view = { λ m. record { first = first_in m.slots; log = m.log.items; clock = m.clock; faults = m.faults; starved = m.starved; calls = m.calls; fails = m.fail } };
+    ghost view = { λ m. record {
+      first = first_in m.slots;
+      log = m.log.items;
+      clock = m.clock;
+      faults = m.faults;
+      starved = m.starved;
+      calls = m.calls;
+      fails = m.fail;
+    } };
 
     ghost invariant = { λ m. record {
       past : InPast m.clock m.log.items;
@@ -108,8 +116,10 @@ impl MemDisk {
         ensures passed { self.new ≡ record self.old { clock = counted self.old.clock } }
         ensures held { mem_held self.new ≡ mem_held self.old }
         ensures pending { mem_pending self.new ≡ mem_pending self.old }
-        ensures time { Elapses self.old.clock self.new.clock (mem_may_leave self.old) (mem_may_leave self.new) (λ _. mem_may_leave self.old self.old.clock) }
-        ensures images { (images : Images) → mem_may_leave self.new self.new.clock images ↔ mem_may_leave self.old self.old.clock images }
+        ensures time { Elapses self.old.clock self.new.clock (mem_may_leave self.old) (mem_may_leave self.new)
+            (λ _. mem_may_leave self.old self.old.clock) }
+        ensures images { (images : Images) → mem_may_leave self.new self.new.clock images
+            ↔ mem_may_leave self.old self.old.clock images }
     {
         self.clock = self.clock.saturating_add(1);
     }
@@ -120,7 +130,8 @@ impl MemDisk {
     pub fn after_stop(&self, t: u64, pick: u64) -> Result<MemDisk, Memory>
         requires { t ≤ self.now.clock }
         ensures image { IfOk result (λ d. mem_may_leave self.now t (mem_held d)) }
-        ensures picked { IfOk result (λ d. (f : FileS) → IsPicked pick (state_at self.now t f) (mem_held d f)) }
+        ensures picked { IfOk result (λ d. (f : FileS)
+            → IsPicked pick (state_at self.now t f) (mem_held d f)) }
         ensures still { IfOk result (λ d. (f : FileS) → IsStill (mem_held d) (mem_pending d) f) }
         ensures fresh { IfOk result (λ d. d ≡ fresh d.first []) }
     {
@@ -377,16 +388,20 @@ impl Disk for MemDisk {
 
     fn write_at(&mut self, file: File, at: u64, bytes: &[u8]) -> Result<(), Failed>
         requires { at ≤ length (mem_held self.old file) }
-        ensures written { OnOk result (mem_held self.new file ≡ patched (mem_held self.old file) at bytes.now) }
+        ensures written { OnOk result (mem_held self.new file
+            ≡ patched (mem_held self.old file) at bytes.now) }
         ensures short { OnOk result (at + length bytes.now < end_of_lengths) }
-        ensures failed { OnErr result (IsImage (after_write at (length bytes.now) (resting (mem_held self.old file))) (mem_held self.new file)) }
-        ensures too_far { end_of_lengths ≤ at + length bytes.now → mem_held self.new file ≡ mem_held self.old file }
+        ensures failed { OnErr result
+            (IsImage (after_write at (length bytes.now) (resting (mem_held self.old file))) (mem_held self.new file)) }
+        ensures too_far { end_of_lengths ≤ at + length bytes.now → mem_held self.new file
+            ≡ mem_held self.old file }
         ensures others { OthersHold file (mem_held self.old) (mem_held self.new) }
         ensures pending { Becomes file (after_write at (length bytes.now)) (mem_pending self.old) (mem_pending self.new) }
         ensures time { Elapses self.old.clock self.new.clock (mem_may_leave self.old) (mem_may_leave self.new)
             (λ _. Each (at_file file (after_write at (length bytes.now)) (mem_pending self.old))) }
         ensures clock { Ticks self.old.clock self.new.clock result }
-        ensures at_end { self.old.clock ≡ 2 ^ 64 - 1 → Unchanged (λ d. d.clock) mem_may_leave mem_held mem_pending self.old self.new }
+        ensures at_end { self.old.clock ≡ 2 ^ 64 - 1
+            → Unchanged (λ d. d.clock) mem_may_leave mem_held mem_pending self.old self.new }
         ensures spares { Spares (λ _. alone) (λ d. d.faults) self.old self.new (IsErr result) }
 
         // At `Failed` the files hold what they held.
@@ -399,13 +414,15 @@ impl Disk for MemDisk {
     fn cut(&mut self, file: File, to: u64) -> Result<(), Failed>
         requires { to ≤ length (mem_held self.old file) }
         ensures shortened { OnOk result (mem_held self.new file ≡ take to (mem_held self.old file)) }
-        ensures failed { OnErr result ((mem_held self.new file ≡ mem_held self.old file) ⊎ (mem_held self.new file ≡ take to (mem_held self.old file))) }
+        ensures failed { OnErr result ((mem_held self.new file ≡ mem_held self.old file)
+            ⊎ (mem_held self.new file ≡ take to (mem_held self.old file))) }
         ensures others { OthersHold file (mem_held self.old) (mem_held self.new) }
         ensures pending { Becomes file (after_cut to) (mem_pending self.old) (mem_pending self.new) }
         ensures time { Elapses self.old.clock self.new.clock (mem_may_leave self.old) (mem_may_leave self.new)
             (λ _. Each (at_file file (after_cut to) (mem_pending self.old))) }
         ensures clock { Ticks self.old.clock self.new.clock result }
-        ensures at_end { self.old.clock ≡ 2 ^ 64 - 1 → Unchanged (λ d. d.clock) mem_may_leave mem_held mem_pending self.old self.new }
+        ensures at_end { self.old.clock ≡ 2 ^ 64 - 1
+            → Unchanged (λ d. d.clock) mem_may_leave mem_held mem_pending self.old self.new }
         ensures spares { Spares (λ _. alone) (λ d. d.faults) self.old self.new (IsErr result) }
 
         // At `Failed` the files hold what they held.
@@ -423,7 +440,8 @@ impl Disk for MemDisk {
         ensures time { Elapses self.old.clock self.new.clock (mem_may_leave self.old) (mem_may_leave self.new)
             (λ _. Each (mem_pending self.old)) }
         ensures clock { Ticks self.old.clock self.new.clock result }
-        ensures at_end { self.old.clock ≡ 2 ^ 64 - 1 → Unchanged (λ d. d.clock) mem_may_leave mem_held mem_pending self.old self.new }
+        ensures at_end { self.old.clock ≡ 2 ^ 64 - 1
+            → Unchanged (λ d. d.clock) mem_may_leave mem_held mem_pending self.old self.new }
         ensures spares { Spares (λ _. alone) (λ d. d.faults) self.old self.new (IsErr result) }
         ensures call { IsSyncCall self.old self.new file result }
     {

@@ -90,8 +90,10 @@ impl Slot {
 // Puts the bytes over what is there.
 fn overwrite(held: &mut [u8], at: usize, bytes: &[u8])
     requires { at + length bytes.now ≤ length held.old }
-    ensures inside { (k : ℕ) → k < length bytes.now → get_or held.new (at + k) 0 ≡ get_or bytes.now k 0 }
-    ensures outside { (k : ℕ) → (k < at) ⊎ (at + length bytes.now ≤ k) → get_or held.new k 0 ≡ get_or held.old k 0 }
+    ensures inside { (k : ℕ) → k < length bytes.now → get_or held.new (at + k) 0
+        ≡ get_or bytes.now k 0 }
+    ensures outside { (k : ℕ) → (k < at) ⊎ (at + length bytes.now ≤ k) → get_or held.new k 0
+        ≡ get_or held.old k 0 }
 {
     for k in 0..bytes.len() {
         held[at + k] = bytes[k];
@@ -132,7 +134,8 @@ pub struct Slots {
 impl Slots {
     pub fn new(choice: Blob, left: Blob, right: Blob) -> Self
         ensures first { first_in result ≡ record { choice = choice; left = left; right = right } }
-        ensures held { (f : FileS) → held_in result f ≡ file_of (record { choice = choice; left = left; right = right }) f }
+        ensures held { (f : FileS) → held_in result f
+            ≡ file_of (record { choice = choice; left = left; right = right }) f }
     {
         Slots {
             choice: Slot::new(choice),
@@ -166,7 +169,8 @@ impl Slots {
     /// Puts the bytes into a file.
     pub fn write(&mut self, alloc: Global, file: File, at: u64, bytes: &[u8]) -> Result<(), Memory>
         requires { at ≤ length (held_in self.old file) }
-        ensures ok { OnOk result (held_in self.new file ≡ patched (held_in self.old file) at bytes.now) }
+        ensures ok { OnOk result (held_in self.new file
+            ≡ patched (held_in self.old file) at bytes.now) }
         ensures err { OnErr result (held_in self.new file ≡ held_in self.old file) }
         ensures others { OthersKeep file self.old self.new }
         ensures first { first_in self.new ≡ first_in self.old }

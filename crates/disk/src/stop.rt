@@ -34,8 +34,10 @@ fn fill(bytes: &mut [u8], from: u64, to: u64, byte: u8)
 // Makes the bytes at least so many.
 fn grow(bytes: &mut Vec<u8>, len: usize, byte: u8) -> Result<(), Memory>
     ensures len { OnOk result (length bytes.new.items ≡ max (length bytes.old.items) len) }
-    ensures kept { OnOk result ((k : ℕ) → k < length bytes.old.items → get_or bytes.new.items k 0 ≡ get_or bytes.old.items k 0) }
-    ensures grown { OnOk result ((k : ℕ) → length bytes.old.items ≤ k → k < len → get_or bytes.new.items k 0 ≡ byte) }
+    ensures kept { OnOk result ((k : ℕ) → k < length bytes.old.items → get_or bytes.new.items k 0
+        ≡ get_or bytes.old.items k 0) }
+    ensures grown { OnOk result ((k : ℕ) → length bytes.old.items ≤ k → k < len
+        → get_or bytes.new.items k 0 ≡ byte) }
 {
     if bytes.len() < len {
         bytes.resize(len, byte)?;
@@ -45,7 +47,8 @@ fn grow(bytes: &mut Vec<u8>, len: usize, byte: u8) -> Result<(), Memory>
 
 // A write of so many bytes at a place, good or failed, frees what it covers.
 fn free_write(left: &mut Vec<u8>, at: u64, count: u64, byte: u8) -> Result<(), Memory>
-    ensures { OnOk result ((p : Pending) → length p.base ≤ p.greatest → IsFilled byte p left.old.items → IsFilled byte (after_write at count p) left.new.items) }
+    ensures { OnOk result ((p : Pending) → length p.base ≤ p.greatest
+        → IsFilled byte p left.old.items → IsFilled byte (after_write at count p) left.new.items) }
 {
     if !fits(at, count) {
         fill(left.as_mut_slice(), at, u64::MAX, byte);
@@ -58,7 +61,8 @@ fn free_write(left: &mut Vec<u8>, at: u64, count: u64, byte: u8) -> Result<(), M
 
 // A cut, good or failed, frees what stands from its place on.
 fn free_cut(left: &mut Vec<u8>, to: u64, byte: u8)
-    ensures { (p : Pending) → IsFilled byte p left.old.items → IsFilled byte (after_cut to p) left.new.items }
+    ensures { (p : Pending) → IsFilled byte p left.old.items
+        → IsFilled byte (after_cut to p) left.new.items }
 {
     fill(left.as_mut_slice(), to, u64::MAX, byte);
 }
@@ -71,7 +75,9 @@ fn next_left(
     change: &Change,
     pick: u64,
 ) -> Result<(), Memory>
-    ensures { OnOk result ((s : State) → s.held ≡ held.now → length s.pending.base ≤ s.pending.greatest → IsLeft pick s.pending left.old.items → IsLeft pick (step change.now s).pending left.new.items) }
+    ensures { OnOk result ((s : State) → s.held ≡ held.now
+        → length s.pending.base ≤ s.pending.greatest → IsLeft pick s.pending left.old.items
+        → IsLeft pick (step change.now s).pending left.new.items) }
 {
     let byte = (pick % 256) as u8;
     match change {
@@ -100,7 +106,8 @@ fn next_left(
 
 // What the file holds after one change.
 fn next_held(held: &mut Vec<u8>, change: &Change) -> Result<(), Memory>
-    ensures { OnOk result ((s : State) → s.held ≡ held.old.items → (step change.now s).held ≡ held.new.items) }
+    ensures { OnOk result ((s : State) → s.held ≡ held.old.items → (step change.now s).held
+        ≡ held.new.items) }
 {
     match change {
         Change::Wrote(at, bytes) => {
@@ -128,8 +135,11 @@ fn next(
     t: u64,
     pick: u64,
 ) -> Result<(), Memory>
-    ensures held { OnOk result ((s : State) → s.held ≡ held.old.items → (entered t file entry.now s).held ≡ held.new.items) }
-    ensures left { OnOk result ((s : State) → s.held ≡ held.old.items → length s.pending.base ≤ s.pending.greatest → IsLeft pick s.pending left.old.items → IsLeft pick (entered t file entry.now s).pending left.new.items) }
+    ensures held { OnOk result ((s : State) → s.held ≡ held.old.items
+        → (entered t file entry.now s).held ≡ held.new.items) }
+    ensures left { OnOk result ((s : State) → s.held ≡ held.old.items
+        → length s.pending.base ≤ s.pending.greatest → IsLeft pick s.pending left.old.items
+        → IsLeft pick (entered t file entry.now s).pending left.new.items) }
 {
     if entry.moment <= t && is_same(file, entry.file) {
         next_left(alloc, held.as_slice(), left, &entry.change, pick)?;

@@ -3,8 +3,7 @@ use Rattle.std.proofs.Common.{◌≡◌, ◌≢◌, ◌⊎◌, inl, inr, ⊎_eli
 use Rattle.std.proofs.lemmas.List.{take_at, drop_at, take-append-drop}
 use Rattle.disk.specs.declared.file.File.{File}
 use Rattle.disk.specs.Images.{Pending, Images, IsImage, after_write, resting, patched}
-use Rattle.disk.specs.Moments.{Moments}
-use Rattle.disk.specs.ImageLaws.{front_after_write, one_byte_kinds, goes_on, weaker}
+use Rattle.disk.proofs.ImageLemmas.{front_after_write, one_byte_kinds}
 use Rattle.object_journal.specs.declared.entry.Entry.{Entry}
 use Rattle.object_journal.specs.Payload.{frame_bytes}
 use Rattle.object_journal.specs.Frames.{IsFrame, closed_gate}

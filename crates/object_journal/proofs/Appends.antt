@@ -3,7 +3,7 @@ use Rattle.std.proofs.Common.{◌≡◌, ◌≢◌, ℕ, List, [], ◌∷◌, �
 use Rattle.std.proofs.lemmas.List.{append-nil}
 use Rattle.object_journal.specs.declared.entry.Entry.{Entry}
 use Rattle.object_journal.specs.Payload.{frame_bytes}
-use Rattle.object_journal.specs.EntryLaws.{lawful_more}
+use Rattle.object_journal.proofs.EntryLaws.{lawful_more}
 use Rattle.object_journal.specs.Journal.{MayFollow, IsGated, open_gate, header_of, records_of}
 
 pub records_more : (es : List Entry) (e : Entry) → records_of (es ++ e ∷ []) ≡ records_of es ++ (open_gate ∷ frame_bytes e)

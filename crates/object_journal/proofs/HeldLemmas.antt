@@ -17,8 +17,8 @@ use Rattle.basis.specs.declared.memory.Memory.{Memory}
 use Rattle.object_journal.specs.KeyOrder.{by_key}
 use Rattle.object_journal.specs.Journal.{IsPut, IsHeld, FewHeld, most_keys}
 use Rattle.object_journal.specs.HeldKeys.{AreHeld, Holds, Releases}
-use Rattle.object_journal.specs.KeyLaws.{by_key_total, exact_keys, same, same_is, is_same, same_decides, same_or_not, true_or_false}
-use Rattle.object_journal.specs.EntryLaws.{leaves_last, held_cases, held_more}
+use Rattle.object_journal.proofs.KeyLaws.{by_key_total, exact_keys, same, same_is, is_same, same_decides, same_or_not, true_or_false}
+use Rattle.object_journal.proofs.EntryLaws.{leaves_last, held_cases, held_more}
 
 -- ---- sets of keys
 

@@ -1,3 +1,5 @@
+pub mod KeyLaws
+pub mod EntryLaws
 mod Fields
 mod Readings
 mod Appends

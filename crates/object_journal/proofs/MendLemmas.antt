@@ -3,7 +3,7 @@ use Rattle.std.proofs.Common.{◌≡◌, ◌⊎◌, inl, inr, ⊎_elim, ℕ, ◌
 use Rattle.std.proofs.lemmas.List.{take-append-drop}
 use Rattle.disk.specs.declared.file.File.{File}
 use Rattle.disk.specs.Images.{Pending, Images, IsImage, after_write, resting}
-use Rattle.disk.specs.ImageLaws.{front_after_write, reached_most}
+use Rattle.disk.proofs.ImageLemmas.{front_after_write, reached_most}
 use Rattle.object_journal.specs.declared.entry.Entry.{Entry}
 use Rattle.object_journal.specs.Payload.{frame_bytes}
 use Rattle.object_journal.specs.Journal.{IsHeader, IsGated, IsJournal, last_revision, header_of, records_of, open_gate}

@@ -1,5 +1,5 @@
 -- What an opening leaves, from its first sync on.
-use Rattle.std.proofs.Common.{◌≡◌, inl, inr, ⊎_elim, ℕ, ◌+◌, ◌-◌, ◌^◌, ◌≤◌, ◌<◌, List, [], ◌∷◌, ◌++◌, length, sym, ap, subst, ◌∙◌, arith}
+use Rattle.std.proofs.Common.{◌≡◌, inl, inr, ⊎_elim, ℕ, ◌-◌, ◌^◌, ◌≤◌, ◌<◌, List, [], ◌∷◌, ◌++◌, length, sym, ap, subst, ◌∙◌, arith}
 use Rattle.std.specs.Prelude.{false, true, Result, Ok, Err, IsErr, IsErrOf}
 use Rattle.std.proofs.lemmas.Bool.{cases_lt}
 use Rattle.disk.specs.Counted.{counted}
@@ -7,7 +7,8 @@ use Rattle.disk.specs.declared.file.File.{File}
 use Rattle.disk.specs.declared.file.File.TheVariants.{Left}
 use Rattle.disk.specs.Images.{Pending, Images, Each, IsStill, OthersWithin, end_of_lengths}
 use Rattle.disk.specs.Moments.{Moments, Ticks, Unchanged}
-use Rattle.disk.specs.ImageLaws.{image_now, within_image, goes_on, weaker}
+use Rattle.disk.specs.ImageLaws.{within_image}
+use Rattle.disk.proofs.ImageLemmas.{image_now, goes_on, weaker}
 use Rattle.object_journal.specs.declared.entry.Entry.{Entry}
 use Rattle.object_journal.specs.declared.opening.OpenFault.{OpenFault}
 use Rattle.object_journal.specs.declared.opening.OpenFault.TheVariants.{NotAStore, Disk, Memory}

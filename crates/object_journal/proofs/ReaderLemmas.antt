@@ -14,7 +14,7 @@ use Rattle.object_journal.specs.KeyOrder.{by_key}
 use Rattle.object_journal.specs.Journal.{HasNoNext, IsHeader, IsBrokenAt, last_revision, open_gate, header_of, records_of}
 use Rattle.object_journal.specs.HeldKeys.{AreHeld}
 use Rattle.object_journal.specs.Readings.{Begins, Advances, HasHeader, IsReadTo, IsWholeReading}
-use Rattle.object_journal.specs.EntryLaws.{not_empty}
+use Rattle.object_journal.proofs.EntryLaws.{not_empty}
 use Rattle.object_journal.proofs.Appends.{records_more}
 
 none_held : (held : BTreeSet Key) → held.keys ≡ [] → AreHeld held []

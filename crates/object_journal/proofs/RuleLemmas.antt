@@ -10,7 +10,7 @@ use Rattle.object_journal.specs.declared.entry.Change.TheVariants.{Removal}
 use Rattle.object_journal.specs.Payload.{frame_bytes}
 use Rattle.object_journal.specs.Journal.{IsHeld, IsNextRevision, IsLawfulChange, MayFollow, AreLawful, HasNoNext, last_revision, revision_after}
 use Rattle.object_journal.specs.Parts.{IsRecordAt}
-use Rattle.object_journal.specs.EntryLaws.{base_below, revision_more}
+use Rattle.object_journal.proofs.EntryLaws.{base_below, revision_more}
 use Rattle.object_journal.proofs.Readings.{IsRecord, record_of_lawful, one_record}
 
 strictly : (a b : ℕ) → a ≤ b → b ≢ a → a < b

@@ -4,7 +4,7 @@ use Rattle.std.proofs.lemmas.Bool.{cases_eq, cases_lt}
 use Rattle.object_journal.specs.declared.entry.Entry.{Entry}
 use Rattle.object_journal.specs.Payload.{frame_bytes}
 use Rattle.object_journal.specs.Journal.{AreLawful, MayFollow, HasNoNext, IsJournal, IsRefusal, last_revision, open_gate, header_of, records_of}
-use Rattle.object_journal.specs.EntryLaws.{not_empty, lawful_more}
+use Rattle.object_journal.proofs.EntryLaws.{not_empty, lawful_more}
 use Rattle.object_journal.proofs.Appends.{records_more}
 
 abbrev None : List ℕ → Type 0

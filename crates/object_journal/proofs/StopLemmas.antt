@@ -5,7 +5,8 @@ use Rattle.std.proofs.lemmas.Bool.{false≢true}
 use Rattle.disk.specs.declared.file.File.{File}
 use Rattle.disk.specs.Images.{Pending, Within, Images, IsImage, Each, IsStill, Becomes, OthersHold, OthersWithin, at_file, after_write, same_file}
 use Rattle.disk.specs.Moments.{Moments}
-use Rattle.disk.specs.ImageLaws.{at_file_other, within_image, within_trans, write_image, goes_on, stays, weaker, within_refl}
+use Rattle.disk.specs.ImageLaws.{within_image}
+use Rattle.disk.proofs.ImageLemmas.{at_file_other, within_trans, write_image, goes_on, stays, weaker, within_refl}
 use Rattle.object_journal.specs.Standing.{chosen, OthersStay, OthersMayBe, LeavesWrite, Writes}
 
 pub leaves_write : (held : Images) (pending : File → Pending) (at n : ℕ) (i : Images) → IsStill held pending chosen → Each (at_file chosen (after_write at n) pending) i → LeavesWrite held pending at n i

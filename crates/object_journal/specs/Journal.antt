@@ -45,7 +45,8 @@ abbrev pub IsLawfulChange : List Entry → Entry → Change → Type 0
 IsLawfulChange before e (Put created body) = (1 ≤ created) × (created ≤ e.revision)
 IsLawfulChange before e Removal = IsHeld before e.key
 
--- Up to the base the revisions are those of a compacted journal, in any order. From the first above the base on, each is the next one.
+-- Up to the base the revisions are those of a compacted journal, in any order. From the first above the base on, each
+-- is the next one.
 pub record IsNextRevision (base : ℕ) (before : List Entry) (revision : ℕ) : Type 0 where
   pub first : 1 ≤ revision
   pub fits : revision ≤ last_revision
@@ -72,7 +73,8 @@ pub record MayFollow (base : ℕ) (before : List Entry) (e : Entry) : Type 0 whe
 
 -- each entry may follow those before it
 abbrev pub AreLawful : ℕ → List Entry → Type 0
-AreLawful base entries = (before : List Entry) (e : Entry) (behind : List Entry) → entries ≡ before ++ e ∷ behind → MayFollow base before e
+AreLawful base entries = (before : List Entry) (e : Entry) (behind : List Entry) → entries ≡ before ++ e ∷ behind
+    → MayFollow base before e
 
 -- the bytes
 

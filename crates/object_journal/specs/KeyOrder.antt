@@ -12,4 +12,8 @@ is_same_key a b = bytes_eq a.group b.group && bytes_eq a.resource b.resource && 
 
 -- by group, then resource, then namespace, then name, each in order of bytes
 abbrev pub by_key : Key → Key → Ordering
-by_key = then_cmp (then_cmp (then_cmp (on (λ k. k.group) (slice_cmp nat_cmp)) (on (λ k. k.resource) (slice_cmp nat_cmp))) (on (λ k. k.namespace) (slice_cmp nat_cmp))) (on (λ k. k.name) (slice_cmp nat_cmp))
+by_key = then_cmp
+    (then_cmp
+    (then_cmp (on (λ k. k.group) (slice_cmp nat_cmp)) (on (λ k. k.resource) (slice_cmp nat_cmp)))
+    (on (λ k. k.namespace) (slice_cmp nat_cmp)))
+    (on (λ k. k.name) (slice_cmp nat_cmp))

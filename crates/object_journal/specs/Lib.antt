@@ -6,5 +6,3 @@ pub mod Parts
 pub mod HeldKeys
 pub mod Readings
 pub mod Standing
-pub mod KeyLaws
-pub mod EntryLaws

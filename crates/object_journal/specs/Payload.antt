@@ -1,4 +1,5 @@
--- A record: the payload that an entry has, and the payload behind its length. Numbers stand with their highest byte first.
+-- A record: the payload that an entry has, and the payload behind its length. Numbers stand with their highest byte
+-- first.
 use Rattle.std.specs.Prelude.{ℕ, ◌≤◌, List, [], ◌∷◌, ◌++◌, length}
 use Rattle.std.specs.Int.{w16, w32, w64, to_be_bytes}
 use Rattle.object_journal.specs.declared.key.Key.{Key}

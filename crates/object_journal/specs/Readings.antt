@@ -15,7 +15,8 @@ pub record IsState (r : Reading) (entries : List Entry) : Type 0 where
   pub revision : r.revision ≡ revision_after r.base entries
   pub revision_fits : r.revision ≤ last_revision
 
--- the record of the entry stands at the front, with the next gate at this place, and the entry may follow but for the number of keys
+-- the record of the entry stands at the front, with the next gate at this place, and the entry may follow but for the
+-- number of keys
 pub record IsNextRecord (r : Reading) (entries : List Entry) (bytes : List ℕ) (e : Entry) (place : ℕ) : Type 0 where
   pub at_front : IsRecordAt bytes e place
   pub next_revision : IsNextRevision r.base entries e.revision
@@ -45,7 +46,8 @@ pub record IsReadTo (r : Reading) (entries : List Entry) (bytes : List ℕ) (pla
   pub within : place < length bytes
 
 -- entries that were gathered as they were read up to the gate at this place
-pub record GathersTo {G : Type 0} (is_of : G → List Entry → Type 0) (r : Reading) (gathered : G) (bytes : List ℕ) (place : ℕ) : Type 0 where
+pub record GathersTo {G : Type 0} (is_of : G → List Entry
+    → Type 0) (r : Reading) (gathered : G) (bytes : List ℕ) (place : ℕ) : Type 0 where
   pub entries : List Entry
   pub read : IsReadTo r entries bytes place
   pub made : is_of gathered entries

@@ -17,8 +17,8 @@ use Rattle.object_journal.specs.Journal.{AreLawful, IsGated, IsHeader, IsJournal
 abbrev pub chosen : File
 chosen = Left
 
--- The journal hasn't ended, and has these entries. Where the disk tells, nothing of the file is pending, and its bytes are those entries,
--- with the closed gate at the journal's end.
+-- The journal hasn't ended, and has these entries. Where the disk tells, nothing of the file is pending, and its bytes
+-- are those entries, with the closed gate at the journal's end.
 pub record StandsOn (tells : Type 0) (held : Images) (pending : File → Pending) (j : Journal) (entries : List Entry) : Type 0 where
   pub going : j.ended ≡ false
   pub base_fits : j.base ≤ last_revision
@@ -43,8 +43,8 @@ pub record LeavesWrite (held : Images) (pending : File → Pending) (at n : ℕ)
   pub file : IsImage (after_write at n (resting (held chosen))) (images chosen)
   pub others : OthersMayBe pending images
 
--- How a call ends that writes to the journal's file: where it was good, the file is still again. At each of its moments a
--- stop leaves these images. The other files stay.
+-- How a call ends that writes to the journal's file: where it was good, the file is still again. At each of its moments
+-- a stop leaves these images. The other files stay.
 pub record Writes {D : Type 0} (clock : D → ℕ) (may_leave : D → ℕ → Images → Type 0) (held : D → Images)
     (pending : D → File → Pending) (old new : D) (good : Type 0) (Left : Images → Type 0) : Type 0 where
   pub still : good → IsStill (held new) (pending new) chosen
@@ -94,7 +94,8 @@ pub record MeansSame (old new : List ℕ) : Type 0 where
   pub means : (base : ℕ) (entries : List Entry) → IsJournal old base entries → IsJournal new base entries
   pub refused : (place : ℕ) → IsRefusal old place → new ≡ old
 
--- a fresh file has a header of base 0 and a closed gate now, one with a single gate has it closed, and any other is as it was
+-- a fresh file has a header of base 0 and a closed gate now, one with a single gate has it closed, and any other is as
+-- it was
 pub record IsMended (old : List ℕ) (base : ℕ) (new : List ℕ) : Type 0 where
   pub short : length old ≤ 17 → new ≡ header_of base ++ closed_gate ∷ []
   pub long : 17 < length old → new ≡ old
@@ -113,15 +114,15 @@ pub record IsUnsynced {D : Type 0} (clock : D → ℕ) (may_leave : D → ℕ �
   pub within : Within (pending new chosen) (pending old chosen)
   pub time : Moments clock may_leave old new (λ _. Each (pending old))
 
--- The first sync was good. Its moment is the first of the call, and from it on a stop leaves what the file held, or what
--- means the same.
+-- The first sync was good. Its moment is the first of the call, and from it on a stop leaves what the file held, or
+-- what means the same.
 pub record IsSynced {D : Type 0} (clock : D → ℕ) (may_leave : D → ℕ → Images → Type 0) (held : D → Images)
     (pending : D → File → Pending) (old new : D) : Type 0 where
   pub begun : clock old < clock new
   pub time : Moments clock may_leave old new (λ _. LeavesMeaning (held old) (pending old))
 
--- How an opening ends on a disk that tells. Bytes that break the grammar are refused at their place, and stay. The file is
--- still, unless the disk failed. Where it was still before, each moment of the call leaves its meaning.
+-- How an opening ends on a disk that tells. Bytes that break the grammar are refused at their place, and stay. The file
+-- is still, unless the disk failed. Where it was still before, each moment of the call leaves its meaning.
 pub record Opens {D T : Type 0} (clock : D → ℕ) (may_leave : D → ℕ → Images → Type 0) (held : D → Images)
     (pending : D → File → Pending) (old new : D) (result : Result T OpenFault) : Type 0 where
   pub refused : (file : File) (at : ℕ) → IsErrOf result (NotAStore file at)

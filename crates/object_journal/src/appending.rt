@@ -48,7 +48,8 @@ fn open_gate<D: Disk>(disk: &mut D, end: u64) -> Result<(), Failed>
     ensures opened { D.tells → OnOk result ((base : ℕ) (entries : List Entry) (new : Entry)
         → IsReadyAt (D.held disk.old chosen) base entries new end → MayFollow base entries new
         → IsGated (D.held disk.new chosen) base (entries ++ new ∷ [])) }
-    ensures written { D.tells → OnOk result (D.held disk.new chosen ≡ patched (D.held disk.old chosen) end (open_byte ∷ [])) }
+    ensures written { D.tells → OnOk result (D.held disk.new chosen
+        ≡ patched (D.held disk.old chosen) end (open_byte ∷ [])) }
     ensures writes { D.tells → Writes D.clock D.may_leave D.held D.pending disk.old disk.new (IsOk result)
         (λ images. (base : ℕ) (entries : List Entry) (new : Entry) → IsReadyAt (D.held disk.old chosen) base entries new end
             → MayFollow base entries new → LeavesEither (D.pending disk.old) base entries new images) }
@@ -62,14 +63,16 @@ impl Journal {
     pub fn append<D: Disk>(&mut self, framed: &Framed, disk: &mut D) -> Result<(), Failed>
         requires { (entries : List Entry) × StandsOn D.tells (D.held disk.old) (D.pending disk.old) self.old entries
             × MayFollow self.old.base entries framed.now }
-        ensures stands { OnOk result ((entries : List Entry) → StandsOn D.tells (D.held disk.old) (D.pending disk.old) self.old entries
+        ensures stands { OnOk result ((entries : List Entry)
+            → StandsOn D.tells (D.held disk.old) (D.pending disk.old) self.old entries
             → MayFollow self.old.base entries framed.now
             → StandsOn D.tells (D.held disk.new) (D.pending disk.new) self.new (entries ++ framed.now ∷ [])) }
         ensures ok { OnOk result (self.new ≡ record self.old {
             revision = max self.old.revision framed.now.revision;
             end = self.old.end + 1 + length (frame_bytes framed.now) }) }
         ensures failed { OnErr result (self.new ≡ record self.old { ended = true }) }
-        ensures written { D.tells → OnOk result (D.held disk.new chosen ≡ appended (D.held disk.old chosen) self.old.end framed.now) }
+        ensures written { D.tells → OnOk result (D.held disk.new chosen
+            ≡ appended (D.held disk.old chosen) self.old.end framed.now) }
         ensures writes { D.tells → Writes D.clock D.may_leave D.held D.pending disk.old disk.new (IsOk result)
             (LeavesAppend D.tells (D.held disk.old) (D.pending disk.old) self.old framed.now) }
         ensures spares { Spares D.beside D.faults disk.old disk.new (IsErr result) }

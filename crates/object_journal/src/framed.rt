@@ -26,10 +26,10 @@ pub enum FrameFault {
 
 impl fmt::Display for FrameFault {
     fn fmt<W: fmt::Write>(&self, f: &mut fmt::Formatter<W>) -> fmt::Result {
-        f.write_str(match self {
-            FrameFault::TooLong => "payload too long",
-            FrameFault::Memory => "out of memory",
-        })
+        match self {
+            FrameFault::TooLong => f.write_str("payload too long"),
+            FrameFault::Memory => Memory.fmt(f),
+        }
     }
 }
 
@@ -155,7 +155,8 @@ fn frame_of(alloc: Global, entry: &Entry, size: u32) -> Result<Vec<u8>, Memory>
     requires short { HasShortTexts entry.now.key }
     requires size { size ≡ length (payload_of entry.now) }
     ensures frame { IfOk result (λ v. v.items ≡ frame_bytes entry.now ++ closed_gate ∷ []) }
-    ensures fits { OnOk result ((entry.now.revision < 2 ^ 64) × (created_of entry.now.change < 2 ^ 64)) }
+    ensures fits { OnOk result ((entry.now.revision < 2 ^ 64)
+        × (created_of entry.now.change < 2 ^ 64)) }
 {
     let mut bytes = Vec::with_capacity(alloc, 5 + size as usize)?;
     bytes.extend_from_slice(&size.to_be_bytes())?;
@@ -172,7 +173,8 @@ fn frame_of(alloc: Global, entry: &Entry, size: u32) -> Result<Vec<u8>, Memory>
 pub fn frame(alloc: Global, entry: &Entry) -> Result<Framed, FrameFault>
     requires { HasShortTexts entry.now.key }
     ensures ok { IfOk result (λ f. f ≡ entry.now) }
-    ensures too_long { IsErrOf result FrameFault.TooLong ↔ (longest_payload < length (payload_of entry.now)) }
+    ensures too_long { IsErrOf result FrameFault.TooLong
+        ↔ (longest_payload < length (payload_of entry.now)) }
 {
     let size = payload_length(entry);
     if size > LONGEST_PAYLOAD {

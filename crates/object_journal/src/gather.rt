@@ -17,7 +17,8 @@ pub trait Gather: Drop {
 
     /// Takes one more entry in.
     fn take_in(&mut self, alloc: Global, entry: Entry) -> Result<(), Memory>
-        ensures { OnOk result ((entries : List EntryS) → is_of self.old entries → is_of self.new (entries ++ entry ∷ [])) };
+        ensures { OnOk result ((entries : List EntryS) → is_of self.old entries
+            → is_of self.new (entries ++ entry ∷ [])) };
 }
 
 /// All entries, in their order.

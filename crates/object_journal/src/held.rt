@@ -10,7 +10,8 @@ use basis::Memory;
 use std::alloc::Global;
 use std::collections::BTreeSet;
 
-const MOST_KEYS: usize = 4096;
+/// No journal holds more keys.
+pub const MOST_KEYS: usize = 4096;
 
 /// Whether no more keys are held than a journal may hold.
 pub(crate) fn are_few(held: &BTreeSet<Key>) -> bool
@@ -39,7 +40,8 @@ fn release(held: &mut BTreeSet<Key>, key: &Key)
 
 /// Takes one more entry in.
 pub(crate) fn take_in(alloc: Global, held: &mut BTreeSet<Key>, entry: &Entry) -> Result<(), Memory>
-    ensures { OnOk result ((entries : List Entry) → AreHeld held.old entries → AreHeld held.new (entries ++ entry.now ∷ [])) }
+    ensures { OnOk result ((entries : List Entry) → AreHeld held.old entries
+        → AreHeld held.new (entries ++ entry.now ∷ [])) }
 {
     match &entry.change {
         Change::Put { .. } => hold(alloc, held, &entry.key),

@@ -2,8 +2,6 @@
 #![tactic(auto)]
 
 mod appending;
-#[cfg(test)]
-mod disk_tests;
 mod entry;
 mod framed;
 mod gather;
@@ -17,13 +15,13 @@ mod put;
 mod reader;
 mod reading;
 mod rules;
-#[cfg(test)]
-mod tests;
 
 pub use appending::Journal;
 pub use entry::{Change, Entries, Entry};
 pub use framed::{FrameFault, Framed, frame};
 pub use gather::Gather;
+pub use held::MOST_KEYS;
 pub use key::Key;
 pub use law::{bytes_have_one_reading, last_revision_is_the_greatest, record_is_read_again};
 pub use opening::{OpenFault, open_journal, open_journal_into};
+pub use rules::LAST_REVISION;

@@ -16,7 +16,7 @@ use crate::framed::CLOSED_GATE;
 use crate::gather::Gather;
 use crate::put::{CHOSEN, put_still};
 use crate::reader::{ReadFault, read_journal};
-use disk::{Disk, Failed, File};
+use disk::{AtFault, Disk, Failed, File};
 use std::alloc::Global;
 use std::error::Error;
 use std::fmt;
@@ -39,11 +39,11 @@ pub enum OpenFault {
 
 impl fmt::Display for OpenFault {
     fn fmt<W: fmt::Write>(&self, f: &mut fmt::Formatter<W>) -> fmt::Result {
-        f.write_str(match self {
-            OpenFault::NotAStore { .. } => "not a store",
-            OpenFault::Disk => "the disk failed",
-            OpenFault::Memory => "out of memory",
-        })
+        match self {
+            OpenFault::NotAStore { .. } => f.write_str("not a store"),
+            OpenFault::Disk => AtFault::Failed.fmt(f),
+            OpenFault::Memory => AtFault::Memory.fmt(f),
+        }
     }
 }
 
@@ -127,7 +127,8 @@ fn open_still<G: Gather, D: Disk>(alloc: Global, disk: &mut D) -> Result<(Journa
     ensures refused { D.tells → (file : FileS) (at : ℕ) → IsErrOf result (NotAStore file at)
         → (file ≡ chosen) × IsRefusal (D.held disk.old chosen) at × (D.held disk.new ≡ D.held disk.old) }
     ensures memory { D.tells → IsErrOf result OpenFault.Memory → D.held disk.new ≡ D.held disk.old }
-    ensures synced { D.tells → ¬ IsErrOf result OpenFault.Disk → IsStill (D.held disk.new) (D.pending disk.new) chosen }
+    ensures synced { D.tells → ¬ IsErrOf result OpenFault.Disk
+        → IsStill (D.held disk.new) (D.pending disk.new) chosen }
     ensures time { D.tells → Moments D.clock D.may_leave disk.old disk.new
         (λ _. LeavesMeaning (D.held disk.old) (D.pending disk.old)) }
     ensures others { D.tells → OthersStay (D.held disk.old) (D.held disk.new) (D.pending disk.old) (D.pending disk.new) }

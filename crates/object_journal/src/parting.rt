@@ -109,7 +109,8 @@ fn change_of(tag: u8, created: u64, body: &[u8]) -> Option<ChangePart<'_>>
 }
 
 fn take_numbers(bytes: &[u8]) -> Option<(u8, u64, u64, &[u8])>
-    ensures some { IfSome result (λ r. (bytes.now ≡ number_fields r.0 r.1 r.2 ++ r.3.now) × (r.2 < 2 ^ 64)) }
+    ensures some { IfSome result (λ r. (bytes.now ≡ number_fields r.0 r.1 r.2 ++ r.3.now)
+        × (r.2 < 2 ^ 64)) }
     ensures none { IfNone result (length bytes.now < 17) }
 {
     let Some((tag, rest)) = bytes.split_first() else {

@@ -13,7 +13,8 @@ pub(crate) const CHOSEN: File = File::Left;
 pub(crate) fn put_still<D: Disk>(disk: &mut D, at: u64, bytes: &[u8]) -> Result<(), Failed>
     requires place { D.tells → at ≤ length (D.held disk.old chosen) }
     requires still { D.tells → IsStill (D.held disk.old) (D.pending disk.old) chosen }
-    ensures written { D.tells → OnOk result (D.held disk.new chosen ≡ patched (D.held disk.old chosen) at bytes.now) }
+    ensures written { D.tells → OnOk result (D.held disk.new chosen
+        ≡ patched (D.held disk.old chosen) at bytes.now) }
     ensures short { OnOk result (at + length bytes.now < end_of_lengths) }
     ensures writes { D.tells → Writes D.clock D.may_leave D.held D.pending disk.old disk.new (IsOk result)
         (LeavesWrite (D.held disk.old) (D.pending disk.old) at (length bytes.now)) }

@@ -35,8 +35,10 @@ impl Reading {
     fn next(&self, alloc: Global, bytes: &[u8]) -> Result<(Entry, usize), RecordFault>
         requires base { self.now.base ≤ last_revision }
         requires revision { self.now.revision ≤ last_revision }
-        ensures ok { IfOk result (λ r. (entries : List EntryS) → IsState self.now entries → IsNextRecord self.now entries bytes.now r.0 r.1) }
-        ensures unlawful { IsErrOf result RecordFault.Unlawful → (entries : List EntryS) → IsState self.now entries → HasNoNext self.now.base entries bytes.now }
+        ensures ok { IfOk result (λ r. (entries : List EntryS) → IsState self.now entries
+            → IsNextRecord self.now entries bytes.now r.0 r.1) }
+        ensures unlawful { IsErrOf result RecordFault.Unlawful → (entries : List EntryS)
+            → IsState self.now entries → HasNoNext self.now.base entries bytes.now }
     {
         let Some((part, size)) = take_record(bytes) else {
             return Err(RecordFault::Unlawful);
@@ -61,8 +63,10 @@ impl Reading {
     ) -> Result<(Entry, usize), RecordFault>
         requires base { self.old.base ≤ last_revision }
         requires revision { self.old.revision ≤ last_revision }
-        ensures ok { IfOk result (λ r. (entries : List EntryS) → IsState self.old entries → Advances self.old self.new entries bytes.now r.0 r.1) }
-        ensures unlawful { IsErrOf result RecordFault.Unlawful → (entries : List EntryS) → IsState self.old entries → HasNoNext self.old.base entries bytes.now }
+        ensures ok { IfOk result (λ r. (entries : List EntryS) → IsState self.old entries
+            → Advances self.old self.new entries bytes.now r.0 r.1) }
+        ensures unlawful { IsErrOf result RecordFault.Unlawful → (entries : List EntryS)
+            → IsState self.old entries → HasNoNext self.old.base entries bytes.now }
     {
         let (entry, place) = match self.next(alloc, bytes) {
             Ok(next) => next,

@@ -13,13 +13,15 @@ use minor_version::{Blob, Text};
 use std::alloc::Global;
 use std::collections::BTreeSet;
 
-pub(crate) const LAST_REVISION: u64 = 1_000_000;
+/// No revision is above it.
+pub const LAST_REVISION: u64 = 1_000_000;
 
 /// Whether the revision may follow, where this is the greatest of the base and the earlier revisions.
 pub(crate) fn is_next(base: u64, greatest: u64, revision: u64) -> bool
     requires greatest { greatest ≤ last_revision }
     requires base { base ≤ last_revision }
-    ensures { (before : List Entry) → greatest ≡ revision_after base before → IsTrue result ↔ IsNextRevision base before revision }
+    ensures { (before : List Entry) → greatest ≡ revision_after base before → IsTrue result
+        ↔ IsNextRevision base before revision }
 {
     if revision == 0 || LAST_REVISION < revision {
         return false;
@@ -33,7 +35,8 @@ pub(crate) fn is_next(base: u64, greatest: u64, revision: u64) -> bool
 
 /// Whether the change may follow, where these keys are held.
 pub(crate) fn is_lawful(held: &BTreeSet<Key>, entry: &Entry) -> bool
-    ensures { (before : List Entry) → AreHeld held.now before → IsTrue result ↔ IsLawfulChange before entry.now entry.now.change }
+    ensures { (before : List Entry) → AreHeld held.now before → IsTrue result
+        ↔ IsLawfulChange before entry.now entry.now.change }
 {
     match &entry.change {
         Change::Put { created, .. } => 1 <= *created && *created <= entry.revision,

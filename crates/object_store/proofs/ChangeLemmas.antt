@@ -12,7 +12,7 @@ use Rattle.object_journal.specs.declared.entry.Entry.{Entry}
 use Rattle.object_journal.specs.declared.entry.Change.TheVariants.{Put, Removal}
 use Rattle.object_journal.specs.Payload.{created_of, body_of}
 use Rattle.object_journal.specs.KeyOrder.{by_key}
-use Rattle.object_journal.specs.KeyLaws.{by_key_total}
+use Rattle.object_journal.proofs.KeyLaws.{by_key_total}
 use Rattle.object_store.specs.declared.item.Item.{Item}
 use Rattle.object_store.specs.Records.{AreInKeyOrder, IsPlaceOf, IsGapOf, IsChanged, put_of}
 

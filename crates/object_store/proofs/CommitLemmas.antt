@@ -8,7 +8,7 @@ use Rattle.object_journal.specs.declared.entry.Entry.{Entry}
 use Rattle.object_journal.specs.declared.appending.Journal.{Journal}
 use Rattle.object_journal.specs.Journal.{MayFollow, revision_after}
 use Rattle.object_journal.specs.Standing.{StandsOn, LeavesEither, LeavesAppend}
-use Rattle.object_journal.specs.EntryLaws.{revision_more}
+use Rattle.object_journal.proofs.EntryLaws.{revision_more}
 use Rattle.object_store.specs.Records.{AreRecords}
 use Rattle.object_store.specs.Stores.{StoreRecord, HasEntries, MayCommit, LeavesRecords}
 use Rattle.object_store.proofs.NextLemmas.{records_changed, can_change}

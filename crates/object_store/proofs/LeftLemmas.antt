@@ -18,8 +18,8 @@ use Rattle.object_journal.specs.declared.entry.Change.TheVariants.{Put, Removal}
 use Rattle.object_journal.specs.Journal.{Leaves, IsPut}
 use Rattle.object_journal.specs.Payload.{created_of, body_of}
 use Rattle.object_journal.specs.KeyOrder.{by_key}
-use Rattle.object_journal.specs.KeyLaws.{by_key_total, same, same_is, is_same, true_or_false}
-use Rattle.object_journal.specs.EntryLaws.{not_empty, leaves_last, leaves_more, leaves_cases}
+use Rattle.object_journal.proofs.KeyLaws.{by_key_total, same, same_is, is_same, true_or_false}
+use Rattle.object_journal.proofs.EntryLaws.{not_empty, leaves_last, leaves_more, leaves_cases}
 use Rattle.object_store.specs.declared.item.Item.{Item}
 use Rattle.object_store.specs.declared.recovered.Held.{Held}
 use Rattle.object_store.specs.Records.{AreInKeyOrder, AreRecords, put_of}

@@ -1,3 +1,4 @@
+pub mod StoreLaws
 mod OrderLemmas
 mod ChangeLemmas
 mod LeftLemmas

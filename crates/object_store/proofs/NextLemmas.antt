@@ -16,8 +16,8 @@ use Rattle.object_journal.specs.declared.entry.Change.TheVariants.{Put, Removal}
 use Rattle.object_journal.specs.Payload.{longest_payload, payload_of, created_of, body_of}
 use Rattle.object_journal.specs.Journal.{Leaves, IsHeld, IsPut, IsLawfulChange, IsNextRevision, HasLawfulTexts, FewHeld, AreLawful, last_revision, most_keys, revision_after}
 use Rattle.object_journal.specs.KeyOrder.{by_key}
-use Rattle.object_journal.specs.KeyLaws.{by_key_total, exact_keys, same_decides, same_or_not}
-use Rattle.object_journal.specs.EntryLaws.{leaves_last, leaves_more, leaves_cases, held_cases}
+use Rattle.object_journal.proofs.KeyLaws.{by_key_total, exact_keys, same_decides, same_or_not}
+use Rattle.object_journal.proofs.EntryLaws.{leaves_last, leaves_more, leaves_cases, held_cases}
 use Rattle.object_store.specs.declared.item.Item.{Item}
 use Rattle.object_store.specs.Records.{AreInKeyOrder, AreRecords, HoldsKey, IsPlaceOf, IsGapOf, IsChanged, put_of}
 use Rattle.object_store.specs.Stores.{StoreRecord, HaveLawfulTexts, Recalls, IsCreated, IsFull, IsPutOf, IsRemovalOf, KeepsCreated, MayCommit}

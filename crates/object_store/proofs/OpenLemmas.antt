@@ -3,7 +3,7 @@ use Rattle.std.proofs.Common.{◌≡◌, ◌⊎◌, inl, inr, ⊎_elim, ℕ, Lis
 use Rattle.std.specs.Prelude.{Result, IsErrOf}
 use Rattle.disk.specs.declared.file.File.{File}
 use Rattle.disk.specs.Images.{Pending, Images}
-use Rattle.disk.specs.ImageLaws.{weaker}
+use Rattle.disk.proofs.ImageLemmas.{weaker}
 use Rattle.object_journal.specs.declared.opening.OpenFault.{OpenFault}
 use Rattle.object_journal.specs.declared.opening.OpenFault.TheVariants.{NotAStore, Disk, Memory}
 use Rattle.object_journal.specs.declared.entry.Entry.{Entry}

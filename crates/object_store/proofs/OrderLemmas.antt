@@ -9,7 +9,7 @@ use Rattle.std.proofs.lemmas.List.{get_or-take, get_or-drop, length-take-le}
 use Rattle.std.proofs.lemmas.List.Sorted.{searchable_from_sorted}
 use Rattle.object_journal.specs.declared.key.Key.{Key}
 use Rattle.object_journal.specs.KeyOrder.{by_key}
-use Rattle.object_journal.specs.KeyLaws.{by_key_total, exact_keys}
+use Rattle.object_journal.proofs.KeyLaws.{by_key_total, exact_keys}
 use Rattle.object_store.specs.declared.item.Item.{Item}
 use Rattle.object_store.specs.Records.{AreInKeyOrder, IsPlaceOf, IsGapOf}
 

@@ -1,4 +1,3 @@
 pub mod Records
 pub mod Left
 pub mod Stores
-pub mod StoreLaws

@@ -76,7 +76,8 @@ pub record MayCommit (s : StoreRecord) (entries : List Entry) (e : Entry) : Type
 
 -- these are the records before the entry or those after it, at the revision of then
 abbrev pub IsBeforeOrAfter : StoreRecord → Entry → List ℕ → Type 0
-IsBeforeOrAfter s e bytes = RecoversTo bytes s.items s.journal.revision ⊎ ((after : List Item) × IsChanged s.items e after × RecoversTo bytes after e.revision)
+IsBeforeOrAfter s e bytes = RecoversTo bytes s.items s.journal.revision
+    ⊎ ((after : List Item) × IsChanged s.items e after × RecoversTo bytes after e.revision)
 
 pub record LeavesRecords (pending : File → Pending) (s : StoreRecord) (e : Entry) (images : Images) : Type 0 where
   pub file : IsBeforeOrAfter s e (images chosen)
@@ -94,9 +95,9 @@ pub record MeanOne (old new : List ℕ) : Type 0 where
   pub second : IsJournal new base entries
   pub mended : IsMended old base new
 
--- How an opening of the store ends on a disk that tells: as that of its journal. Unless the first sync failed, a stop at
--- each moment from its end on leaves the records that the file gave. Where memory runs out after the file was mended, it
--- means what it meant.
+-- How an opening of the store ends on a disk that tells: as that of its journal. Unless the first sync failed, a stop
+-- at each moment from its end on leaves the records that the file gave. Where memory runs out after the file was
+-- mended, it means what it meant.
 pub record OpensStore {D T : Type 0} (clock : D → ℕ) (may_leave : D → ℕ → Images → Type 0) (held : D → Images)
     (pending : D → File → Pending) (old new : D) (result : Result T OpenFault) : Type 0 where
   pub journal : Opens clock may_leave held pending old new result

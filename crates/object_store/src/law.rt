@@ -14,8 +14,10 @@ pub fn entries_leave_one_list(entries: &[Entry])
 /// The law of what is recovered: bytes give at most one list of records, at one revision. Nothing is computed here; the
 /// law is the contract.
 pub fn bytes_give_one_list_of_records(bytes: &[u8])
-    ensures items { (xs ys : List Item) (n m : ℕ) → RecoversTo bytes.now xs n → RecoversTo bytes.now ys m → xs ≡ ys }
-    ensures revision { (xs ys : List Item) (n m : ℕ) → RecoversTo bytes.now xs n → RecoversTo bytes.now ys m → n ≡ m }
+    ensures items { (xs ys : List Item) (n m : ℕ) → RecoversTo bytes.now xs n
+        → RecoversTo bytes.now ys m → xs ≡ ys }
+    ensures revision { (xs ys : List Item) (n m : ℕ) → RecoversTo bytes.now xs n
+        → RecoversTo bytes.now ys m → n ≡ m }
 {
     bytes_have_one_reading(bytes)
 }

@@ -8,8 +8,6 @@ mod places;
 mod ready;
 mod recovered;
 mod store;
-#[cfg(test)]
-mod tests;
 
 pub use item::Item;
 pub use law::{

@@ -59,7 +59,8 @@ pub(crate) fn put_item(items: &mut Vec<Item>, item: Item)
 /// Takes the key's record out.
 pub(crate) fn take_item(items: &mut Vec<Item>, key: &Key)
     requires { AreInKeyOrder items.old.items }
-    ensures { (e : EntryS) → e.key ≡ key.now → e.change ≡ Removal → IsChanged items.old.items e items.new.items }
+    ensures { (e : EntryS) → e.key ≡ key.now → e.change ≡ Removal
+        → IsChanged items.old.items e items.new.items }
 {
     if let Ok(place) = place_of(items, key) {
         items.remove(place);

@@ -21,11 +21,11 @@ pub enum ReadyFault {
 
 impl fmt::Display for ReadyFault {
     fn fmt<W: fmt::Write>(&self, f: &mut fmt::Formatter<W>) -> fmt::Result {
-        f.write_str(match self {
-            ReadyFault::Full => "the store is full",
-            ReadyFault::TooLong => "payload too long",
-            ReadyFault::Memory => "out of memory",
-        })
+        match self {
+            ReadyFault::Full => f.write_str("the store is full"),
+            ReadyFault::TooLong => FrameFault::TooLong.fmt(f),
+            ReadyFault::Memory => FrameFault::Memory.fmt(f),
+        }
     }
 }
 
@@ -69,7 +69,8 @@ impl Ready {
 pub(crate) fn ready_of(alloc: Global, entry: Entry) -> Result<Ready, ReadyFault>
     requires { HasShortTexts entry.key }
     ensures ok { IfOk result (λ r. r ≡ entry) }
-    ensures too_long { IsErrOf result ReadyFault.TooLong ↔ (longest_payload < length (payload_of entry)) }
+    ensures too_long { IsErrOf result ReadyFault.TooLong
+        ↔ (longest_payload < length (payload_of entry)) }
     ensures full { ¬ IsErrOf result ReadyFault.Full }
 {
     match frame(alloc, &entry) {

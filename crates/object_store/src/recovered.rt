@@ -62,7 +62,8 @@ impl Gather for Recovered {
 impl Recovered {
     /// The records that the entries leave, in key order.
     pub(crate) fn listed(self, alloc: Global) -> Result<Vec<Item>, Memory>
-        ensures { IfOk result (λ v. (entries : List EntryS) → AreLeft self.held entries → AreRecords entries v.items) }
+        ensures { IfOk result (λ v. (entries : List EntryS) → AreLeft self.held entries
+            → AreRecords entries v.items) }
     {
         listed(alloc, self.held)
     }

@@ -15,13 +15,9 @@ use crate::places::{change, created_in, item_of};
 use crate::ready::{Ready, ReadyFault, ready_of};
 use disk::{Disk, Failed};
 use minor_version::Blob;
-use object_journal::{Change, Entry, Journal, Key};
+use object_journal::{Change, Entry, Journal, Key, LAST_REVISION, MOST_KEYS};
 use std::alloc::Global;
 use std::marker::Model;
-
-const MOST_KEYS: usize = 4096;
-
-const LAST_REVISION: u64 = 1_000_000;
 
 /// The records of a journal, by key.
 #[derive(Debug, Drop)]
@@ -123,7 +119,8 @@ impl Store {
         ensures within { OnOk result (length (payload_of entry) ≤ longest_payload) }
         ensures spare { OnOk result (self.new ≡ record self.old { spare = 1 }) }
         ensures full { ¬ IsErrOf result ReadyFault.Full }
-        ensures too_long { IsErrOf result ReadyFault.TooLong ↔ (longest_payload < length (payload_of entry)) }
+        ensures too_long { IsErrOf result ReadyFault.TooLong
+            ↔ (longest_payload < length (payload_of entry)) }
         ensures err { OnErr result (self.new ≡ self.old) }
     {
         let ready = ready_of(alloc, entry)?;
@@ -141,11 +138,14 @@ impl Store {
         requires going { self.old.journal.ended ≡ false }
         requires short { HasShortTexts key }
         ensures ok { IfOk result (λ e. IsPutOf self.old.items self.old.journal.revision key body e) }
-        ensures may { IfOk result (λ e. (entries : List EntryS) → Recalls self.old entries → MayCommit self.old entries e) }
+        ensures may { IfOk result (λ e. (entries : List EntryS) → Recalls self.old entries
+            → MayCommit self.old entries e) }
         ensures spare { OnOk result (self.new ≡ record self.old { spare = 1 }) }
-        ensures full { IsErrOf result ReadyFault.Full ↔ IsFull self.old.items self.old.journal.revision key }
+        ensures full { IsErrOf result ReadyFault.Full
+            ↔ IsFull self.old.items self.old.journal.revision key }
         ensures too_long { (e : EntryS) → IsPutOf self.old.items self.old.journal.revision key body e
-            → IsErrOf result ReadyFault.TooLong ↔ ((¬ IsFull self.old.items self.old.journal.revision key) × (longest_payload < length (payload_of e))) }
+            → IsErrOf result ReadyFault.TooLong ↔ ((¬ IsFull self.old.items self.old.journal.revision key)
+                × (longest_payload < length (payload_of e))) }
         ensures err { OnErr result (self.new ≡ self.old) }
     {
         let revision = self.journal.revision();
@@ -163,7 +163,8 @@ impl Store {
         requires going { self.old.journal.ended ≡ false }
         requires held { HoldsKey self.old.items key }
         ensures ok { IfOk result (λ e. IsRemovalOf self.old.journal.revision key e) }
-        ensures may { IfOk result (λ e. (entries : List EntryS) → Recalls self.old entries → MayCommit self.old entries e) }
+        ensures may { IfOk result (λ e. (entries : List EntryS) → Recalls self.old entries
+            → MayCommit self.old entries e) }
         ensures spare { OnOk result (self.new ≡ record self.old { spare = 1 }) }
         ensures full { IsErrOf result ReadyFault.Full ↔ (last_revision ≤ self.old.journal.revision) }
         ensures too_long { ¬ IsErrOf result ReadyFault.TooLong }
@@ -185,7 +186,8 @@ impl Store {
     /// new revision. Where the disk fails, the store has ended. No memory is taken.
     pub fn commit<D: Disk>(&mut self, ready: Ready, disk: &mut D) -> Result<u64, Failed>
         requires spare { self.old.spare ≡ 1 }
-        requires may { (entries : List EntryS) × HasEntries D.tells (D.held disk.old) (D.pending disk.old) self.old entries
+        requires may { (entries : List EntryS)
+            × HasEntries D.tells (D.held disk.old) (D.pending disk.old) self.old entries
             × MayCommit self.old entries ready }
         ensures ok { IfOk result (λ revision. revision ≡ ready.revision) }
         ensures changed { OnOk result (IsChanged self.old.items ready self.new.items) }
@@ -199,7 +201,8 @@ impl Store {
             journal = record self.old.journal { ended = true };
             spare = 0 }) }
         ensures spare { self.new.spare ≡ 0 }
-        ensures written { D.tells → OnOk result (D.held disk.new chosen ≡ appended (D.held disk.old chosen) self.old.journal.end ready) }
+        ensures written { D.tells → OnOk result (D.held disk.new chosen
+            ≡ appended (D.held disk.old chosen) self.old.journal.end ready) }
         ensures writes { D.tells → Writes D.clock D.may_leave D.held D.pending disk.old disk.new (IsOk result)
             (LeavesRecords (D.pending disk.old) self.old ready) }
         ensures spares { Spares D.beside D.faults disk.old disk.new (IsErr result) }

@@ -4,8 +4,6 @@
 mod memory;
 mod standard;
 mod streams;
-#[cfg(test)]
-mod tests;
 
 pub use memory::{MemSink, MemSource};
 pub use standard::{StdSink, StdSource};

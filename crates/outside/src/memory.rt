@@ -97,7 +97,13 @@ impl Model for MemSink {
 
     ghost Value = { Record };
 
-    ghost view = { λ s. record { written = s.bytes.items; calls = s.calls; faults = s.faults; starved = s.starved; fails = s.fail } };
+    ghost view = { λ s. record {
+      written = s.bytes.items;
+      calls = s.calls;
+      faults = s.faults;
+      starved = s.starved;
+      fails = s.fail;
+    } };
 }
 
 impl MemSink {
@@ -145,10 +151,12 @@ impl Sink for MemSink {
 
         // A listed call fails, and another only where it found no memory and counted that.
         ensures listed_fails { Contains self.old.fails (counted self.old.calls) → IsErr result }
-        ensures fails { OnErr result (Contains self.old.fails (counted self.old.calls) ⊎ (self.new.starved ≡ counted self.old.starved)) }
+        ensures fails { OnErr result (Contains self.old.fails (counted self.old.calls)
+            ⊎ (self.new.starved ≡ counted self.old.starved)) }
         ensures calls { self.new.calls ≡ counted self.old.calls }
         ensures fed { OnOk result (self.new.starved ≡ self.old.starved) }
-        ensures listed_fed { Contains self.old.fails (counted self.old.calls) → self.new.starved ≡ self.old.starved }
+        ensures listed_fed { Contains self.old.fails (counted self.old.calls) → self.new.starved
+            ≡ self.old.starved }
         ensures listed { self.new.fails ≡ self.old.fails }
     {
         self.calls = self.calls.saturating_add(1);

@@ -2,6 +2,7 @@
 
 use disk::File;
 
+#[derive(Drop)]
 pub struct Call<'a> {
     pub kind: &'a str,
     pub file: File,

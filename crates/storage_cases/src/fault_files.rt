@@ -7,6 +7,7 @@ use std::io;
 use std::io::{ErrorKind, Read, Seek, SeekFrom, Write};
 use std::rt::Files;
 
+#[derive(Drop)]
 pub struct FaultFiles<'a, R> {
     pub rt: &'a R,
     pub name: &'a str,

@@ -7,6 +7,8 @@ use Rattle.disk.specs.declared.file.File.TheVariants.{Choice, Left, Right}
 use Rattle.object_journal.specs.declared.opening.OpenFault.{OpenFault}
 use Rattle.object_journal.specs.declared.opening.OpenFault.TheVariants as fault
 use Rattle.object_store.specs.Stores.{StoreRecord}
+use Rattle.store_report.specs.declared.report.Status.{Status}
+use Rattle.store_report.specs.declared.report.Status.TheVariants as status
 
 abbrev pub file_name : File → List ℕ
 file_name Choice = codes "choice"
@@ -15,7 +17,8 @@ file_name Right = codes "right"
 
 -- how many records are held, and at which revision
 abbrev pub store_line : StoreRecord → List ℕ
-store_line store = codes "store: " ++ (decimal (length store.items) ++ (codes " records, revision " ++ (decimal store.journal.revision ++ codes "\n")))
+store_line store = codes "store: " ++ (decimal (length store.items)
+    ++ (codes " records, revision " ++ (decimal store.journal.revision ++ codes "\n")))
 
 -- the file that is no journal, and the place where it breaks the grammar
 abbrev pub not_a_store_line : File → ℕ → List ℕ
@@ -27,9 +30,9 @@ report_line (Err (fault.NotAStore file at)) = not_a_store_line file at
 report_line (Err fault.Disk) = codes "disk fault\n"
 report_line (Err fault.Memory) = codes "out of memory\n"
 
--- the numbers of `kube_emu`
-abbrev pub report_status : Result StoreRecord OpenFault → ℕ
-report_status (Ok store) = 0
-report_status (Err fault.Memory) = 3
-report_status (Err fault.Disk) = 6
-report_status (Err (fault.NotAStore file at)) = 10
+-- the numbers are those of `kube_emu`
+abbrev pub report_status : Result StoreRecord OpenFault → Status
+report_status (Ok store) = status.Opened
+report_status (Err fault.Memory) = status.Memory
+report_status (Err fault.Disk) = status.DiskFault
+report_status (Err (fault.NotAStore file at)) = status.NotAStore

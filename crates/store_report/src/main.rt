@@ -5,16 +5,10 @@ mod report;
 
 use disk::{AtFault, FileDisk};
 use object_store::{OpenFault, Store, open_store};
-use report::{line_of, status_of};
+use report::{Status, line_of, status_of};
 use std::alloc::AllocError;
 use std::env;
 use std::process::ExitCode;
-
-const USAGE: u8 = 2;
-
-const MEMORY: u8 = 3;
-
-const WRITE_FAULT: u8 = 5;
 
 fn open(rt: &HostRuntime, folder: &str) -> Result<Store, OpenFault> {
     let alloc = rt.alloc();
@@ -25,21 +19,21 @@ fn open(rt: &HostRuntime, folder: &str) -> Result<Store, OpenFault> {
     }
 }
 
-fn written(rt: &HostRuntime, line: &str, status: u8) -> u8 {
+fn written(rt: &HostRuntime, line: &str, status: Status) -> Status {
     match rt.write_all(line.as_bytes()) {
         Ok(()) => status,
-        Err(_) => WRITE_FAULT,
+        Err(_) => Status::WriteFault,
     }
 }
 
-fn run(rt: &HostRuntime) -> Result<u8, AllocError> {
+fn run(rt: &HostRuntime) -> Result<Status, AllocError> {
     let alloc = rt.alloc();
     let words = match env::args(rt) {
         Ok(words) => words.skip(1).collect::<Vec<String>>(alloc)?,
-        Err(_) => return Ok(USAGE),
+        Err(_) => return Ok(Status::Usage),
     };
     let [folder] = words.as_slice() else {
-        return Ok(written(rt, "usage: store_report FOLDER\n", USAGE));
+        return Ok(written(rt, "usage: store_report FOLDER\n", Status::Usage));
     };
     let store = open(rt, folder.as_str());
     let line = line_of(alloc, &store)?;
@@ -48,7 +42,7 @@ fn run(rt: &HostRuntime) -> Result<u8, AllocError> {
 
 fn main(rt: HostRuntime) -> ExitCode {
     match run(&rt) {
-        Ok(status) => ExitCode::from(status),
-        Err(_) => ExitCode::from(MEMORY),
+        Ok(status) => ExitCode::from(status as u8),
+        Err(_) => ExitCode::from(Status::Memory as u8),
     }
 }

@@ -44,14 +44,25 @@ pub fn line_of(alloc: Global, store: &Result<Store, OpenFault>) -> Result<String
     }
 }
 
-/// The status of the process, by the numbers of `kube_emu`.
-pub fn status_of(store: &Result<Store, OpenFault>) -> u8
+/// How the process ends, by the numbers of `kube_emu`.
+#[derive(Clone, Copy, Debug, PartialEq, Eq)]
+pub enum Status {
+    Opened = 0,
+    Usage = 2,
+    Memory = 3,
+    WriteFault = 5,
+    DiskFault = 6,
+    NotAStore = 10,
+}
+
+/// The status after the line on the store.
+pub fn status_of(store: &Result<Store, OpenFault>) -> Status
     ensures { result ≡ report_status store.now }
 {
     match store {
-        Ok(_) => 0,
-        Err(OpenFault::Memory) => 3,
-        Err(OpenFault::Disk) => 6,
-        Err(OpenFault::NotAStore { .. }) => 10,
+        Ok(_) => Status::Opened,
+        Err(OpenFault::Memory) => Status::Memory,
+        Err(OpenFault::Disk) => Status::DiskFault,
+        Err(OpenFault::NotAStore { .. }) => Status::NotAStore,
     }
 }

@@ -3,7 +3,7 @@ use Rattle.std.specs.Prelude.{Err}
 use Rattle.disk.specs.Images.{Images, end_of_lengths}
 use Rattle.object_journal.specs.Journal.{IsJournal, IsRefusal}
 use Rattle.object_journal.specs.Standing.{chosen, IsMended}
-use Rattle.disk.specs.ImageLaws.{weaker}
+use Rattle.disk.proofs.ImageLemmas.{weaker}
 use Rattle.object_journal.proofs.OpenLemmas.{read_on_moments, end_short, mended_gated, one_refusal}
 use Rattle.object_journal.proofs.opening.open_still.Goals as goal
 

@@ -3,7 +3,7 @@ use Rattle.object_journal.proofs.StopLemmas.{is_not_ok, writes_so, writes_on}
 use Rattle.object_journal.specs.Standing.{chosen, IsGatedAt, LeavesAppend}
 use Rattle.object_journal.specs.Payload.{frame_bytes}
 use Rattle.object_journal.specs.Frames.{closed_gate}
-use Rattle.object_journal.specs.EntryLaws.{lawful_more, revision_more}
+use Rattle.object_journal.proofs.EntryLaws.{lawful_more, revision_more}
 use Rattle.object_journal.proofs.AppendLemmas.{leaves_first, either_back, end_more}
 use Rattle.object_journal.proofs.appending.Journal.append.Goals as goal
 

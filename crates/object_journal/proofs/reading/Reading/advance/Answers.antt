@@ -2,7 +2,7 @@ use Rattle.std.proofs.Common.{[], ◌∷◌, ◌++◌, refl, sym, ap, ◌∙◌,
 use Rattle.std.specs.Prelude.{max, Err}
 use Rattle.std.proofs.lemmas.Bool.{false≢true}
 use Rattle.object_journal.specs.Journal.{MayFollow}
-use Rattle.object_journal.specs.EntryLaws.{lawful_more, revision_more}
+use Rattle.object_journal.proofs.EntryLaws.{lawful_more, revision_more}
 use Rattle.object_journal.proofs.RuleLemmas.{unlawful}
 use Rattle.object_journal.proofs.reading.Reading.advance.Goals as goal
 

@@ -2,27 +2,27 @@ use Rattle.std.proofs.Common.{◌≡◌, Bool, true, List, [], ◌∷◌, ◌++�
 use Rattle.std.specs.Prelude.{Result, Ok, Err, OnOk, is_ok}
 use Rattle.std.proofs.lemmas.Bool.{false≢true}
 use Rattle.disk.specs.MemDisk.{mem_held, mem_pending}
-use Rattle.object_store.specs.StoreLaws.{recalled, with_room, may_with_room}
+use Rattle.object_store.proofs.StoreLaws.{recalled, with_room, may_with_room}
 use Rattle.object_store.proofs.CommitLemmas.{at_ok}
-use Rattle.object_store.proofs.tests.remove.Goals as goal
+use Rattle.storage_cases.proofs.store.put_of.Goals as goal
 
 pub commit-requires-clause-may : goal.commit-requires-clause-may
 commit-requires-clause-may c =
-    let (entries, h) = c.requires in
+    let (entries, h) = c.requires.stands in
     let held = mem_held c.args.disk.now in
     let pending = mem_pending c.args.disk.now in
     let old = c.args.store.now in
-    let new = c.ready_removal.new.self in
+    let new = c.ready_put.new.self in
     let is = c.in-Ok.ensures.spare in
     (entries, with_room (Unit {0}) held pending old new entries is h, may_with_room old new entries c.in-Ok.ready is (c.in-Ok.ensures.may entries (recalled (Unit {0}) held pending old entries h)))
 
 pub returns : goal.returns
 returns c = λ done.
-    let (entries, h) = c.requires in
+    let (entries, h) = c.requires.stands in
     let held = mem_held c.args.disk.now in
     let pending = mem_pending c.args.disk.now in
     let old = c.args.store.now in
-    let new = c.ready_removal.new.self in
+    let new = c.ready_put.new.self in
     let is = c.in-Ok.ensures.spare in
     let stands = at_ok c.commit.result _ (sym c.is_ok.ensures.value ∙ done) c.commit.ensures.stands in
     (entries ++ c.in-Ok.ready ∷ [], stands entries (with_room (Unit {0}) held pending old new entries is h) (may_with_room old new entries c.in-Ok.ready is (c.in-Ok.ensures.may entries (recalled (Unit {0}) held pending old entries h))))
