@@ -52,7 +52,7 @@ patch old at bytes new le is =
     let lf : length (take at old ++ bytes) ≡ at + n = length-append (take at old) bytes ∙ ap (λ m. m + n) lt in
     let front : (k : ℕ) → k < at + n → get_or new k 0 ≡ get_or (take at old ++ bytes) k 0 =
     λ k below. ap (λ (l : List ℕ). get_or l k 0) is
-        ∙ get_or_append_left (take at old ++ bytes) (drop (at + n) old) 0 k (omega (arith, below, lf)) in
+    ∙ get_or_append_left (take at old ++ bytes) (drop (at + n) old) 0 k (omega (arith, below, lf)) in
     record {
       size = ap length is ∙ length-append (take at old ++ bytes) (drop (at + n) old) ∙ omega (arith, lf, length-drop (at + n) old);
       inside = λ k below. front (at + k) (omega (arith, below))
@@ -60,9 +60,9 @@ patch old at bytes new le is =
           ∙ ap (λ m. get_or bytes m 0) (omega arith);
       outside = λ k out. ⊎_elim
           (λ low. front k (omega (arith, low)) ∙ get_or_append_left (take at old) bytes 0 k (omega (arith, low, lt))
-              ∙ get_or-take at old k 0 low)
+          ∙ get_or-take at old k 0 low)
           (λ high. ap (λ (l : List ℕ). get_or l k 0) is
-              ∙ get_or-append_right (take at old ++ bytes) (drop (at + n) old) (at + n) k 0 lf high
-              ∙ get_or-drop (at + n) old (k - (at + n)) 0 ∙ ap (λ m. get_or old m 0) (omega (arith, high)))
+          ∙ get_or-append_right (take at old ++ bytes) (drop (at + n) old) (at + n) k 0 lf high
+          ∙ get_or-drop (at + n) old (k - (at + n)) 0 ∙ ap (λ m. get_or old m 0) (omega (arith, high)))
           out;
     }

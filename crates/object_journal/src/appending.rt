@@ -35,7 +35,7 @@ fn put_record<D: Disk>(disk: &mut D, end: u64, framed: &Framed) -> Result<(), Fa
     ensures short { OnOk result (end + 1 + length (frame_bytes framed.now) < end_of_lengths) }
     ensures writes { D.tells → Writes D.clock D.may_leave D.held D.pending disk.old disk.new (IsOk result)
         (λ images. (base : ℕ) (entries : List Entry) → IsGatedAt (D.held disk.old chosen) base entries end
-            → LeavesEntries (D.pending disk.old) base entries images) }
+        → LeavesEntries (D.pending disk.old) base entries images) }
     ensures spares { Spares D.beside D.faults disk.old disk.new (IsErr result) }
 {
     put_still(disk, end + 1, framed.bytes())
@@ -52,7 +52,7 @@ fn open_gate<D: Disk>(disk: &mut D, end: u64) -> Result<(), Failed>
         ≡ patched (D.held disk.old chosen) end (open_byte ∷ [])) }
     ensures writes { D.tells → Writes D.clock D.may_leave D.held D.pending disk.old disk.new (IsOk result)
         (λ images. (base : ℕ) (entries : List Entry) (new : Entry) → IsReadyAt (D.held disk.old chosen) base entries new end
-            → MayFollow base entries new → LeavesEither (D.pending disk.old) base entries new images) }
+        → MayFollow base entries new → LeavesEither (D.pending disk.old) base entries new images) }
     ensures spares { Spares D.beside D.faults disk.old disk.new (IsErr result) }
 {
     put_still(disk, end, &[OPEN_GATE])
@@ -68,8 +68,9 @@ impl Journal {
             → MayFollow self.old.base entries framed.now
             → StandsOn D.tells (D.held disk.new) (D.pending disk.new) self.new (entries ++ framed.now ∷ [])) }
         ensures ok { OnOk result (self.new ≡ record self.old {
-            revision = max self.old.revision framed.now.revision;
-            end = self.old.end + 1 + length (frame_bytes framed.now) }) }
+          revision = max self.old.revision framed.now.revision;
+          end = self.old.end + 1 + length (frame_bytes framed.now);
+        }) }
         ensures failed { OnErr result (self.new ≡ record self.old { ended = true }) }
         ensures written { D.tells → OnOk result (D.held disk.new chosen
             ≡ appended (D.held disk.old chosen) self.old.end framed.now) }

@@ -28,8 +28,8 @@ pub fn record_is_read_again(framed: &Framed)
     ensures { (base gate : ℕ) (entries : List Entry) (bytes behind : List ℕ)
         → IsGated bytes base entries → MayFollow base entries framed.now → gate ≢ open_gate
         → IsGated (header_of base
-            ++ (records_of entries ++ ((open_gate ∷ frame_bytes framed.now) ++ gate ∷ behind)))
-            base (entries ++ framed.now ∷ []) }
+        ++ (records_of entries ++ ((open_gate ∷ frame_bytes framed.now) ++ gate ∷ behind)))
+        base (entries ++ framed.now ∷ []) }
 {}
 
 /// The law of the last revision: where lawful entries have a revision above the base, the greatest is that of the last of

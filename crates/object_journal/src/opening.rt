@@ -82,7 +82,7 @@ fn mend<D: Disk>(disk: &mut D, len: usize) -> Result<(), Failed>
         → IsJournal (D.held disk.old chosen) base entries → IsMended (D.held disk.old chosen) base (D.held disk.new chosen)) }
     ensures writes { D.tells → Writes D.clock D.may_leave D.held D.pending disk.old disk.new (IsOk result)
         (λ images. (base : ℕ) (entries : List Entry) → IsJournal (D.held disk.old chosen) base entries
-            → LeavesMeaning (D.held disk.old) (D.pending disk.old) images) }
+        → LeavesMeaning (D.held disk.old) (D.pending disk.old) images) }
     ensures spares { Spares D.beside D.faults disk.old disk.new (IsErr result) }
 {
     if len > 17 {

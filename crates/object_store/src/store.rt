@@ -145,7 +145,7 @@ impl Store {
             ↔ IsFull self.old.items self.old.journal.revision key }
         ensures too_long { (e : EntryS) → IsPutOf self.old.items self.old.journal.revision key body e
             → IsErrOf result ReadyFault.TooLong ↔ ((¬ IsFull self.old.items self.old.journal.revision key)
-                × (longest_payload < length (payload_of e))) }
+            × (longest_payload < length (payload_of e))) }
         ensures err { OnErr result (self.new ≡ self.old) }
     {
         let revision = self.journal.revision();
@@ -198,8 +198,9 @@ impl Store {
             → HasEntries D.tells (D.held disk.old) (D.pending disk.old) self.old entries → MayCommit self.old entries ready
             → HasEntries D.tells (D.held disk.new) (D.pending disk.new) self.new (entries ++ ready ∷ [])) }
         ensures failed { OnErr result (self.new ≡ record self.old {
-            journal = record self.old.journal { ended = true };
-            spare = 0 }) }
+          journal = record self.old.journal { ended = true };
+          spare = 0;
+        }) }
         ensures spare { self.new.spare ≡ 0 }
         ensures written { D.tells → OnOk result (D.held disk.new chosen
             ≡ appended (D.held disk.old chosen) self.old.journal.end ready) }

@@ -44,7 +44,11 @@ fn push(text: &mut String, part: &str) -> Result<(), Memory> {
     }
 }
 
-fn push_call<R: Files>(disk: &mut FileDisk<R>, word: &str, text: &mut String) -> Result<(), Memory> {
+fn push_call<R: Files>(
+    disk: &mut FileDisk<R>,
+    word: &str,
+    text: &mut String,
+) -> Result<(), Memory> {
     let is_done = match call_of(word) {
         Some(call) => is_done(disk, &call),
         None => false,
@@ -53,7 +57,11 @@ fn push_call<R: Files>(disk: &mut FileDisk<R>, word: &str, text: &mut String) ->
     push(text, done_or_failed(is_done))
 }
 
-fn push_calls<R: Files>(disk: &mut FileDisk<R>, calls: &str, text: &mut String) -> Result<(), Memory> {
+fn push_calls<R: Files>(
+    disk: &mut FileDisk<R>,
+    calls: &str,
+    text: &mut String,
+) -> Result<(), Memory> {
     for word in calls.split(' ') {
         match push_call(disk, word, text) {
             Ok(()) => {}

@@ -6,7 +6,12 @@ use disk::{Disk, FailList, File, MemDisk};
 use minor_version::Blob;
 use std::alloc::Global;
 
-pub fn disk_of(alloc: Global, choice: &[u8], left: &[u8], fails: &[u64]) -> Result<MemDisk, Memory> {
+pub fn disk_of(
+    alloc: Global,
+    choice: &[u8],
+    left: &[u8],
+    fails: &[u64],
+) -> Result<MemDisk, Memory> {
     let choice = Blob::copy(alloc, choice)?;
     let left = Blob::copy(alloc, left)?;
     let right = Blob::copy(alloc, b"")?;

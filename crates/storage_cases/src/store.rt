@@ -17,7 +17,10 @@ use std::alloc::Global;
 
 fn name_of(fault: &OpenFault) -> &'static str {
     match fault {
-        OpenFault::NotAStore { file: File::Left, .. } => "left",
+        OpenFault::NotAStore {
+            file: File::Left,
+            ..
+        } => "left",
         OpenFault::NotAStore { .. } => "another file",
         OpenFault::Disk => "the disk failed",
         OpenFault::Memory => "out of memory",
@@ -231,7 +234,12 @@ fn records_left(alloc: Global, disk: &MemDisk, t: u64, pick: u64) -> &'static st
     }
 }
 
-fn push_records_left(alloc: Global, disk: &MemDisk, pick: u64, text: &mut String) -> Result<(), Memory> {
+fn push_records_left(
+    alloc: Global,
+    disk: &MemDisk,
+    pick: u64,
+    text: &mut String,
+) -> Result<(), Memory> {
     for t in 0..disk.moment().saturating_add(1) {
         match text.push_str(records_left(alloc, disk, t, pick)) {
             Ok(()) => {}
