@@ -8,7 +8,7 @@ use Rattle.std.specs.Str.Parse.{ParsesSigned, IsNumeral, signed_digits_value, wi
 use Rattle.std.proofs.lemmas.Fmt.{decimal_is_IsNumeral, parse-signed_decimal}
 use Rattle.std.proofs.lemmas.Int.{ints}
 use Rattle.std.proofs.lemmas.Slice.Eq.{bytes_eq-Decides}
-use Rattle.conversion.specs.Writing.{IsInt64}
+use Rattle.fields.specs.Table.{IsInt64}
 
 ok_from_iff : {T E : Type 0} (r : Result T E) (P : Type 0) (v : T) → OkIff r P v → P → r ≡ Ok v
 ok_from_iff (Ok x) P v h p = ap Ok h.1

@@ -1,17 +1,19 @@
 -- A tree has one first fault, and conversion goes there and back.
-use Rattle.std.proofs.Common.{◌≡◌, ◌≢◌, inl, inr, ℕ, List, [], ◌∷◌, ◌++◌, map, Option, IfSome, sym, ◌∙◌, ap, subst}
+use Rattle.std.proofs.Common.{◌≡◌, ◌≢◌, inl, inr, ℕ, List, [], ◌∷◌, ◌++◌, map, Option, IfSome, refl, sym, ◌∙◌, ap, subst}
 use Rattle.std.specs.List.{AllByRecursion}
 use Rattle.std.proofs.lemmas.List.Elements.{recursion_from_All, All-from_recursion}
-use Rattle.fields.specs.Map.{IsMap, value_at}
-use Rattle.fields.specs.Table.{type_of, AreLawful}
+use Rattle.fields.specs.Fits.{Fits, AreOfSameFields}
+use Rattle.fields.specs.Map.{value_at}
+use Rattle.fields.specs.Table.{IsValueOf, AreLawful}
+use Rattle.fields.specs.declared.value.FieldType.{FieldType}
 use Rattle.fields.specs.declared.map.FieldPair.{FieldPair}
 use Rattle.fields.specs.declared.table.FieldRow.{FieldRow}
 use Rattle.fields.specs.declared.value.FieldValue.{FieldValue}
 use Rattle.serde_json.specs.Data.{Data}
 use Rattle.conversion.specs.Trees.{Names, Stands, IsBlocked}
 use Rattle.conversion.specs.Reading.{IsRead, IsFault}
-use Rattle.conversion.specs.Showing.{IsOf, Shows}
-use Rattle.conversion.specs.Laws.{HasOneFault, SpellTheSame, GoesThereAndBack, Kind, kind_of}
+use Rattle.conversion.specs.Showing.{Shows}
+use Rattle.conversion.specs.Laws.{HasOneFault, GoesThereAndBack}
 use Rattle.conversion.specs.declared.mode.Mode.{Mode}
 use Rattle.conversion.specs.declared.mode.Mode.TheVariants.{Stored}
 use Rattle.conversion.specs.declared.fault.ReadCause.{ReadCause}
@@ -63,8 +65,29 @@ one_fault mode rows tree path other cause why h k =
 
 -- ---- two versions of the same fields
 
+-- the id and the type of a row's field
+record Kind : Type 0 where
+  pub id : List ℕ
+  pub ty : FieldType
+
+abbrev kind_of : FieldRow → Kind
+kind_of row = record { id = row.id; ty = row.ty }
+
+kinds_at : (rows others : List FieldRow) → map (λ r. r.id) rows ≡ map (λ r. r.id) others → map (λ r. r.ty) rows ≡ map (λ r. r.ty) others → map kind_of rows ≡ map kind_of others
+kinds_at [] [] ids types = refl
+kinds_at [] (o ∷ others) ids types = absurd cc
+kinds_at (r ∷ rows) [] ids types = absurd cc
+kinds_at (r ∷ rows) (o ∷ others) ids types =
+    let id : r.id ≡ o.id = cc in
+    let ty : r.ty ≡ o.ty = cc in
+    let head : kind_of r ≡ kind_of o = λ i. record { id = id i; ty = ty i } in
+    let more_ids : map (λ q. q.id) rows ≡ map (λ q. q.id) others = cc in
+    let more_types : map (λ q. q.ty) rows ≡ map (λ q. q.ty) others = cc in
+    let tail : map kind_of rows ≡ map kind_of others = kinds_at rows others more_ids more_types in
+    λ i. head i ∷ tail i
+
 abbrev HasType : List FieldPair → Kind → Type 0
-HasType held k = IfSome (value_at held k.id) (λ v. type_of v ≡ k.ty)
+HasType held k = IfSome (value_at held k.id) (IsValueOf k.ty)
 
 same_types : (held : List FieldPair) (rows others : List FieldRow) → map kind_of rows ≡ map kind_of others → AllByRecursion (λ r. HasType held (kind_of r)) rows → AllByRecursion (λ r. HasType held (kind_of r)) others
 same_types held [] [] same h = tt
@@ -83,14 +106,17 @@ same_ids id (r ∷ rows) (o ∷ others) same h =
     let rest : map kind_of rows ≡ map kind_of others = cc in
     (λ e. h.0 (sym (ap (λ (k : Kind). k.id) first) ∙ e), same_ids id rows others rest h.1)
 
-pub same_of : (rows others : List FieldRow) (held : List FieldPair) → SpellTheSame rows others → IsOf rows held → IsOf others held
-same_of rows others held same h = record {
-  typed = All-from_recursion (λ r. HasType held (kind_of r)) others (same_types held rows others same (recursion_from_All (λ r. HasType held (kind_of r)) rows h.typed));
-  only = λ id none. h.only id (All-from_recursion (λ (r : FieldRow). r.id ≢ id) rows (same_ids id rows others same (recursion_from_All (λ (r : FieldRow). r.id ≢ id) others none)));
-}
+pub fits_alike : (rows others : List FieldRow) (held : List FieldPair) → AreOfSameFields rows others → Fits rows held → Fits others held
+fits_alike rows others held same h =
+    let kinds = kinds_at rows others same.ids same.types in
+    record {
+      map = h.map;
+      each = All-from_recursion (λ r. HasType held (kind_of r)) others (same_types held rows others kinds (recursion_from_All (λ r. HasType held (kind_of r)) rows h.each));
+      only = λ id none. h.only id (All-from_recursion (λ (r : FieldRow). r.id ≢ id) rows (same_ids id rows others kinds (recursion_from_All (λ (r : FieldRow). r.id ≢ id) others none)));
+    }
 
-pub goes_back : (rows others : List FieldRow) (held : List FieldPair) → AreLawful rows → AreLawful others → IsMap held → IsOf rows held → SpellTheSame rows others → GoesThereAndBack rows others held
-goes_back rows others held lawful other_lawful up of same here there back read again shown is_read shown_there read_there shown_back =
-    let first : read ≡ held = reads_as_one Stored rows here read held is_read (reads_back rows held here lawful up of shown) in
-    let second : again ≡ held = reads_as_one Stored others there again held read_there (reads_back others held there other_lawful up (same_of rows others held same of) (subst (λ m. Shows others m there) first shown_there)) in
+pub goes_back : (rows others : List FieldRow) (held : List FieldPair) → AreLawful rows → AreLawful others → Fits rows held → AreOfSameFields rows others → GoesThereAndBack rows others held
+goes_back rows others held lawful other_lawful fits same here there back read again shown is_read shown_there read_there shown_back =
+    let first : read ≡ held = reads_as_one Stored rows here read held is_read (reads_back rows held here lawful fits shown) in
+    let second : again ≡ held = reads_as_one Stored others there again held read_there (reads_back others held there other_lawful (fits_alike rows others held same fits) (subst (λ m. Shows others m there) first shown_there)) in
     (second, shows_as_one rows held back here (subst (λ m. Shows rows m back) second shown_back) shown)

@@ -1,5 +1,5 @@
 -- What is shown has no floats.
-use Rattle.std.proofs.Common.{◌≡◌, ℕ, Bool, false, ◌||◌, List, [], ◌∷◌, ◌++◌, map, Option, Some, None, IfSome, IsSome, ℤ, pos, negsuc, refl, ◌∙◌, ap, subst}
+use Rattle.std.proofs.Common.{◌≡◌, ℕ, Bool, false, ◌||◌, List, [], ◌∷◌, ◌++◌, map, Option, Some, None, IfSome, IsSome, ℤ, pos, negsuc, refl, sym, ◌∙◌, ap, subst}
 use Rattle.std.specs.List.Sorted.{IsStrictlySortedBy}
 use Rattle.fields.specs.Map.{value_at}
 use Rattle.fields.specs.Order.{Rises}
@@ -71,24 +71,27 @@ mutual
       either (has_float d) (members_have_float ms) (plain_tree d order.0 (h k d (here k d ms)))
       (plain_members ms up.1 order.1 (λ name inner found. h name inner (skips name k d ms (later k d ms name inner up.0 found) ∙ found)))
 
-held_plain : (tree : Data) (row : FieldRow) (o : Option FieldValue) → IfSome o (IsHeld tree row) → IsSome o → (json : Data) × Stands tree row.path json × (has_float json ≡ false)
-held_plain tree row None h some = absurd cc
-held_plain tree row (Some v) h some = (h.json, h.stands, written_plain row.form v h.json h.spelled.written)
+held_leaf : (P : Data → Type 0) → ((form : Form) (value : FieldValue) (json : Data) → IsWrittenIn form value json → P json) → (tree : Data) (row : FieldRow) (o : Option FieldValue) → IfSome o (IsHeld tree row) → IsSome o
+    → (json : Data) × Stands tree row.path json × P json
+held_leaf P written tree row None h some = absurd cc
+held_leaf P written tree row (Some v) h some = (h.json, h.stands, written row.form v h.json h.spelled.written)
 
-at_end : (tree : Data) (path rest : Names) (there json : Data) → Stands tree path there → ¬ IsObject there → Stands tree (path ++ rest) json → has_float json ≡ false → has_float there ≡ false
-at_end tree path [] there json stands other at plain =
-    ap has_float (stands_one tree path there json stands (subst (λ p. Stands tree p json) (no_last path) at)) ∙ plain
-at_end tree path (name ∷ rest) there json stands other at plain =
+at_end : (P : Data → Type 0) (tree : Data) (path rest : Names) (there json : Data) → Stands tree path there → ¬ IsObject there → Stands tree (path ++ rest) json → P json → P there
+at_end P tree path [] there json stands other at leaf =
+    subst P (sym (stands_one tree path there json stands (subst (λ p. Stands tree p json) (no_last path) at))) leaf
+at_end P tree path (name ∷ rest) there json stands other at leaf =
     let x = stands_split tree path (name ∷ rest) json at in
     absurd (other (subst IsObject (stands_one tree path x.0 there x.1 stands) (object_from_get name x.0 x.2.0 x.2.1)))
 
-shown_plain : (rows : List FieldRow) (held : List FieldPair) (tree : Data) → Shows rows held tree → IsPlain tree
-shown_plain rows held tree h [] there stands other = absurd (other (subst IsObject stands h.object))
-shown_plain rows held tree h (name ∷ path) there stands other =
+-- what holds of each written value holds of what is shown and is no object
+pub shown_leaf : (P : Data → Type 0) → ((form : Form) (value : FieldValue) (json : Data) → IsWrittenIn form value json → P json) → (rows : List FieldRow) (held : List FieldPair) (tree : Data) → Shows rows held tree
+    → (path : Names) (there : Data) → Stands tree path there → ¬ IsObject there → P there
+shown_leaf P written rows held tree h [] there stands other = absurd (other (subst IsObject stands h.object))
+shown_leaf P written rows held tree h (name ∷ path) there stands other =
     let way = h.least (name ∷ path) there (λ e. cc) stands in
     let row = way.1 in
-    let at = held_plain tree row (value_at held row.id) (subst (λ (r : FieldRow). IfSome (value_at held r.id) (IsHeld tree r)) way.3 (h.each way.0 row way.2)) way.4.0 in
-    at_end tree (name ∷ path) way.4.1.0 there at.0 stands other (subst (λ p. Stands tree p at.0) way.4.1.1 at.1) at.2
+    let at = held_leaf P written tree row (value_at held row.id) (subst (λ (r : FieldRow). IfSome (value_at held r.id) (IsHeld tree r)) way.3 (h.each way.0 row way.2)) way.4.0 in
+    at_end P tree (name ∷ path) way.4.1.0 there at.0 stands other (subst (λ p. Stands tree p at.0) way.4.1.1 at.1) at.2
 
 pub shown_no_float : (rows : List FieldRow) (held : List FieldPair) (tree : Data) → Shows rows held tree → has_float tree ≡ false
-shown_no_float rows held tree h = plain_tree tree h.order (shown_plain rows held tree h)
+shown_no_float rows held tree h = plain_tree tree h.order (shown_leaf (λ json. has_float json ≡ false) written_plain rows held tree h)

@@ -13,3 +13,9 @@ pub mod SameLemmas
 pub mod FaultLemmas
 pub mod FitLemmas
 pub mod FloatLemmas
+pub mod ExistLemmas
+pub mod DepthLemmas
+pub mod LessLemmas
+pub mod ObjectLemmas
+pub mod WholeLemmas
+pub mod WholeReadLemmas

@@ -11,13 +11,13 @@ use Rattle.fields.specs.Map.{IsMap, value_at}
 use Rattle.fields.specs.declared.map.FieldPair.{FieldPair}
 use Rattle.fields.specs.declared.table.FieldRow.{FieldRow}
 use Rattle.fields.specs.declared.value.FieldValue.{FieldValue}
-use Rattle.fields.specs.Table.{type_of, IdsRise, IsDefaultOf, IsLawfulRow, AreLawful}
+use Rattle.fields.specs.Table.{IsValueOf, IdsRise, IsDefaultOf, IsLawfulRow, AreLawful}
 use Rattle.fields.proofs.MapLemmas.{one_list, split_at, no_pairs, below_differs}
 use Rattle.serde_json.specs.Data.{Data}
 use Rattle.conversion.specs.Trees.{Names, IsAbsent}
 use Rattle.conversion.specs.Writing.{Spells}
 use Rattle.conversion.specs.Reading.{default_in, IsHeld, IsRead, Reads, IsFault, IsReadFault}
-use Rattle.conversion.specs.Showing.{IsOf}
+use Rattle.fields.specs.Fits.{Fits}
 use Rattle.conversion.specs.Code.{IsFaultOf, IsRowTaken}
 use Rattle.conversion.specs.declared.mode.Mode.TheVariants.{Body, Stored}
 use Rattle.conversion.specs.declared.fault.ReadFault.{ReadFault}
@@ -26,7 +26,7 @@ use Rattle.conversion.specs.Laws.{ReadsAsOne, IsFaultlessWhereRead}
 use Rattle.conversion.specs.declared.mode.Mode.{Mode}
 use Rattle.conversion.specs.declared.fault.ReadCause.{ReadCause}
 use Rattle.conversion.proofs.TreeLemmas.{stands_one, absent_or_null, blocked_stands, blocked_absent}
-use Rattle.conversion.proofs.WritingLemmas.{leaf_written, leaf_not_null, one_spelled}
+use Rattle.conversion.proofs.WritingLemmas.{leaf_written, leaf_not_null, one_spelled, value_written}
 
 -- ---- one row
 
@@ -145,23 +145,27 @@ first_fault mode rows tree held i row (Bad path cause) h below is faulty = recor
 }
 first_fault mode rows tree held i row Memory h below is faulty = tt
 
--- ---- what is read has the types of the rows
+-- ---- what is read fits the rows
 
-default_typed : (mode : Mode) (row : FieldRow) → IsLawfulRow row → IfSome (default_in mode row) (λ v. type_of v ≡ row.ty)
-default_typed Stored row lawful = tt
-default_typed Body row lawful = by row.on row.default lawful.default
+default_fits : (mode : Mode) (row : FieldRow) → IsLawfulRow row → IfSome (default_in mode row) (IsValueOf row.ty)
+default_fits Stored row lawful = tt
+default_fits Body row lawful = by row.on row.default lawful.default
   where
-    by : (on : Bool) (o : Option FieldValue) → IfSome o (IsDefaultOf row.ty) → IfSome (cond on o None) (λ v. type_of v ≡ row.ty)
+    by : (on : Bool) (o : Option FieldValue) → IfSome o (IsDefaultOf row.ty) → IfSome (cond on o None) (IsValueOf row.ty)
     by true None h = tt
-    by true (Some v) h = h.typed
+    by true (Some v) h = record { typed = h.typed; whole = h.whole }
     by false o h = tt
 
-row_typed : (mode : Mode) (tree : Data) (row : FieldRow) (o : Option FieldValue) → IsLawfulRow row → IsRead mode tree row o → IfSome o (λ v. type_of v ≡ row.ty)
-row_typed mode tree row o lawful (inl h) = subst (λ p. IfSome p (λ v. type_of v ≡ row.ty)) (sym h.1) h.2.spelled.typed
-row_typed mode tree row o lawful (inr h) = subst (λ p. IfSome p (λ v. type_of v ≡ row.ty)) (sym h.1) (default_typed mode row lawful)
+held_fits : (tree : Data) (row : FieldRow) (v : FieldValue) → IsHeld tree row v → IsValueOf row.ty v
+held_fits tree row v h = record { typed = h.spelled.typed; whole = value_written row.form v h.json h.spelled.written }
 
-pub read_is_of : (mode : Mode) (rows : List FieldRow) (tree : Data) (held : List FieldPair) → AreLawful rows → Reads mode rows tree held → IsOf rows held
-read_is_of mode rows tree held lawful h = record {
-  typed = λ k d below. row_typed mode tree (get_or rows k d) (value_at held (get_or rows k d).id) (lawful.each k d below) (h.each k d below);
+row_fits : (mode : Mode) (tree : Data) (row : FieldRow) (o : Option FieldValue) → IsLawfulRow row → IsRead mode tree row o → IfSome o (IsValueOf row.ty)
+row_fits mode tree row o lawful (inl h) = subst (λ p. IfSome p (IsValueOf row.ty)) (sym h.1) (held_fits tree row h.0 h.2)
+row_fits mode tree row o lawful (inr h) = subst (λ p. IfSome p (IsValueOf row.ty)) (sym h.1) (default_fits mode row lawful)
+
+pub read_fits : (mode : Mode) (rows : List FieldRow) (tree : Data) (held : List FieldPair) → AreLawful rows → Reads mode rows tree held → Fits rows held
+read_fits mode rows tree held lawful h = record {
+  map = h.map;
+  each = λ k d below. row_fits mode tree (get_or rows k d) (value_at held (get_or rows k d).id) (lawful.each k d below) (h.each k d below);
   only = h.only;
 }

@@ -3,7 +3,8 @@ use Rattle.std.proofs.Common.{◌≡◌, ◌≢◌, ◌⊎◌, inl, inr, ℕ, �
 use Rattle.std.specs.List.{AllPairs}
 use Rattle.std.proofs.lemmas.Bool.{cases_lt}
 use Rattle.std.proofs.lemmas.List.{get_or_default}
-use Rattle.fields.specs.Map.{IsMap, value_at}
+use Rattle.fields.specs.Fits.{Fits}
+use Rattle.fields.specs.Map.{value_at}
 use Rattle.fields.specs.Table.{LeadsThrough, AreApart, AreLawful}
 use Rattle.fields.specs.declared.map.FieldPair.{FieldPair}
 use Rattle.fields.specs.declared.table.FieldRow.{FieldRow}
@@ -12,7 +13,7 @@ use Rattle.serde_json.specs.Data.{Data}
 use Rattle.serde_json.specs.Find.{get}
 use Rattle.conversion.specs.Trees.{Names, Stands, IsObject, IsAbsent}
 use Rattle.conversion.specs.Reading.{IsHeld, IsRead, Reads}
-use Rattle.conversion.specs.Showing.{IsOf, Shows}
+use Rattle.conversion.specs.Showing.{Shows}
 use Rattle.conversion.specs.declared.mode.Mode.TheVariants.{Stored}
 use Rattle.conversion.proofs.TreeLemmas.{stands_one, stands_split, object_from_get, stands_or_ends, no_last}
 
@@ -95,11 +96,11 @@ shown_absent rows held tree shows i d apart below some none = elim (stands_or_en
 pub some_path : (path : Names) → 0 < length path → path ≢ []
 some_path path h e = let n : length path ≡ 0 = ap length e in omega arith
 
-pub reads_back : (rows : List FieldRow) (held : List FieldPair) (tree : Data) → AreLawful rows → IsMap held → IsOf rows held → Shows rows held tree → Reads Stored rows tree held
-reads_back rows held tree lawful up of shows = record {
-  map = up;
+pub reads_back : (rows : List FieldRow) (held : List FieldPair) (tree : Data) → AreLawful rows → Fits rows held → Shows rows held tree → Reads Stored rows tree held
+reads_back rows held tree lawful fits shows = record {
+  map = fits.map;
   each = λ i d below. by i d below (value_at held (get_or rows i d).id) refl;
-  only = of.only;
+  only = fits.only;
 }
   where
     by : (i : ℕ) (d : FieldRow) → i < length rows → (o : Option FieldValue) → value_at held (get_or rows i d).id ≡ o → IsRead Stored tree (get_or rows i d) (value_at held (get_or rows i d).id)

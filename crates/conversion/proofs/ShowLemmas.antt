@@ -5,7 +5,7 @@ use Rattle.std.proofs.lemmas.List.{get_or_default, get_or-take, length-take-le}
 use Rattle.std.proofs.lemmas.List.Elements.{All-push}
 use Rattle.basis.proofs.ElementLemmas.{Any-push_iff}
 use Rattle.fields.specs.Map.{value_at}
-use Rattle.fields.specs.Table.{LeadsThrough, AreApart, type_of}
+use Rattle.fields.specs.Table.{LeadsThrough, AreApart, IsValueOf, type_of}
 use Rattle.fields.specs.declared.map.FieldPair.{FieldPair}
 use Rattle.fields.specs.declared.table.FieldRow.{FieldRow}
 use Rattle.fields.specs.declared.value.FieldValue.{FieldValue}
@@ -80,13 +80,13 @@ shows_absent rows held row old new shows is same =
       order = shows.order;
     })
 
-pub shows_more : (rows : List FieldRow) (held : List FieldPair) (row : FieldRow) (old new : Data) → Shows rows held old → StandApart row rows → row.path ≢ [] → IfSome (value_at held row.id) (λ v. type_of v ≡ row.ty)
+pub shows_more : (rows : List FieldRow) (held : List FieldPair) (row : FieldRow) (old new : Data) → Shows rows held old → StandApart row rows → row.path ≢ [] → IfSome (value_at held row.id) (IsValueOf row.ty)
     → IsRowShown row (value_at held row.id) old new → Shows (rows ++ row ∷ []) held new
 shows_more rows held row old new shows apart some typed h = by (value_at held row.id) refl typed h
   where
-    by : (o : Option FieldValue) → value_at held row.id ≡ o → IfSome o (λ v. type_of v ≡ row.ty) → IsRowShown row o old new → Shows (rows ++ row ∷ []) held new
+    by : (o : Option FieldValue) → value_at held row.id ≡ o → IfSome o (IsValueOf row.ty) → IsRowShown row o old new → Shows (rows ++ row ∷ []) held new
     by None e t k = shows_absent rows held row old new shows e k
-    by (Some v) e t k = shows_held rows held row v old new shows apart some e t k
+    by (Some v) e t k = shows_held rows held row v old new shows apart some e t.typed k
 
 -- ---- the rows before one, in a lawful table
 

@@ -26,7 +26,7 @@ in_members name (Some (string s)) = refl
 in_members name (Some (array ds)) = refl
 in_members name (Some (object ms)) = refl
 
-placed_cons : (name : List ℕ) (path : Names) (json : Data) (old : Option Data) (inner : Data) → IsPlaced path json (get_member name (members_in old)) inner → IsPlaced (name ∷ path) json old (object (put name inner (without name (members_in old))))
+pub placed_cons : (name : List ℕ) (path : Names) (json : Data) (old : Option Data) (inner : Data) → IsPlaced path json (get_member name (members_in old)) inner → IsPlaced (name ∷ path) json old (object (put name inner (without name (members_in old))))
 placed_cons name path json old inner h = (
   put name inner (without name (members_in old)),
   refl,
@@ -55,7 +55,7 @@ members_order (Some (string s)) h = (tt, tt)
 members_order (Some (array ds)) h = (tt, tt)
 members_order (Some (object ms)) h = h
 
-order_cons : (name : List ℕ) (json : Data) (old : Option Data) (inner : Data) → KeepsOrder (get_member name (members_in old)) json inner → KeepsOrder old json (object (put name inner (without name (members_in old))))
+pub order_cons : (name : List ℕ) (json : Data) (old : Option Data) (inner : Data) → KeepsOrder (get_member name (members_in old)) json inner → KeepsOrder old json (object (put name inner (without name (members_in old))))
 order_cons name json old inner h before leaf =
     let both = members_order old before in
     let inside : IsInOrder inner = h (member_order name (members_in old) both.1) leaf in

@@ -3,7 +3,7 @@ use Rattle.std.proofs.Common.{◌≡◌, ◌≢◌, ℕ, zero, suc, ◌<◌, ◌
 use Rattle.std.specs.Fmt.{signed_decimal}
 use Rattle.std.proofs.lemmas.Int.{ints}
 use Rattle.std.proofs.lemmas.Fmt.{decimal_injective, first_decimal, decimal_digit}
-use Rattle.fields.specs.Table.{type_of}
+use Rattle.fields.specs.Table.{IsFormOf, IsInt64, IsValue, type_of}
 use Rattle.fields.specs.declared.field.Form.{Form}
 use Rattle.fields.specs.declared.field.Form.TheVariants.{Same, Not, Decimal}
 use Rattle.fields.specs.declared.table.FieldRow.{FieldRow}
@@ -13,7 +13,7 @@ use Rattle.serde_json.specs.Data.{Data, null, boolean, number, string, array, ob
 use Rattle.serde_json.specs.Find.{of_integer}
 use Rattle.serde_json.specs.View.{items_of}
 use Rattle.conversion.specs.Trees.{IsObject}
-use Rattle.conversion.specs.Writing.{IsInt64, IsWrittenIn, Spells}
+use Rattle.conversion.specs.Writing.{IsWrittenIn, Spells}
 
 -- ---- no written value is null, or an object
 
@@ -141,3 +141,33 @@ one_json Decimal (Truth b) d e h k = absurd h
 one_json Decimal (Int z) d e h k = h.1 ∙ sym k.1
 one_json Decimal (Text t) d e h k = absurd h
 one_json Decimal (Texts ts) d e h k = absurd h
+
+-- ---- what is written is a value that a field can hold, and each such value can be written
+
+pub value_written : (form : Form) (v : FieldValue) (json : Data) → IsWrittenIn form v json → IsValue v
+value_written Same (Truth b) json h = tt
+value_written Same (Int z) json h = h.0
+value_written Same (Text t) json h = tt
+value_written Same (Texts ts) json h = tt
+value_written Not (Truth b) json h = tt
+value_written Not (Int z) json h = absurd h
+value_written Not (Text t) json h = tt
+value_written Not (Texts ts) json h = tt
+value_written Decimal (Truth b) json h = tt
+value_written Decimal (Int z) json h = h.0
+value_written Decimal (Text t) json h = tt
+value_written Decimal (Texts ts) json h = tt
+
+pub some_json : (form : Form) (v : FieldValue) → IsFormOf (type_of v) form → IsValue v → (json : Data) × IsWrittenIn form v json
+some_json Same (Truth b) h whole = (boolean b, refl)
+some_json Same (Int z) h whole = (number (of_integer z), (whole, refl))
+some_json Same (Text t) h whole = (string t, refl)
+some_json Same (Texts ts) h whole = (array (items_of (map string ts)), refl)
+some_json Not (Truth b) h whole = (boolean (not b), refl)
+some_json Not (Int z) h whole = absurd (let e = h in cc)
+some_json Not (Text t) h whole = absurd (let e = h in cc)
+some_json Not (Texts ts) h whole = absurd (let e = h in cc)
+some_json Decimal (Truth b) h whole = absurd (let e = h in cc)
+some_json Decimal (Int z) h whole = (string (signed_decimal z), (whole, refl))
+some_json Decimal (Text t) h whole = absurd (let e = h in cc)
+some_json Decimal (Texts ts) h whole = absurd (let e = h in cc)

@@ -6,12 +6,14 @@ use Rattle.std.specs.Str.{bytes_eq}
 use Rattle.fields.specs.Map.{IsChangedAt}
 use Rattle.fields.specs.declared.map.FieldPair.{FieldPair}
 use Rattle.fields.specs.declared.table.FieldRow.{FieldRow}
+use Rattle.fields.specs.declared.table.VersionTable.{VersionTable}
 use Rattle.fields.specs.declared.value.FieldValue.{FieldValue}
-use Rattle.serde_json.specs.Data.{Data, null, boolean, number, string, array, object, Members, no_members, member}
+use Rattle.serde_json.specs.Data.{Data, null, boolean, number, string, array, object, Members, no_members, member, put}
 use Rattle.serde_json.specs.Find.{get, get_member}
 use Rattle.conversion.specs.Showing.{IsInOrder}
 use Rattle.conversion.specs.Reading.{IsFault}
 use Rattle.conversion.specs.Trees.{Names, Stands, IsAbsent}
+use Rattle.conversion.specs.Whole.{api_version, kind, metadata}
 use Rattle.conversion.specs.Writing.{IsWrittenIn, Spells}
 use Rattle.conversion.specs.declared.fault.ReadCause.{ReadCause}
 use Rattle.conversion.specs.declared.fault.ReadFault.{ReadFault}
@@ -24,7 +26,9 @@ get_in name tree = option_and_then (get name) tree
 -- the new tree is the old one with this at the path, where what isn't an object gives way
 abbrev pub IsPlaced : Names → Data → Option Data → Data → Type 0
 IsPlaced [] json old new = new ≡ json
-IsPlaced (name ∷ path) json old new = (ms : Members) × (new ≡ object ms) × ((other : List ℕ) → other ≢ name → get_member other ms ≡ get_in other old) × (inner : Data) × (get_member name ms ≡ Some inner) × IsPlaced path json (get_in name old) inner
+IsPlaced (name ∷ path) json old new = (ms : Members) × (new ≡ object ms)
+    × ((other : List ℕ) → other ≢ name → get_member other ms ≡ get_in other old)
+    × (inner : Data) × (get_member name ms ≡ Some inner) × IsPlaced path json (get_in name old) inner
 
 -- the members without those of the name
 abbrev pub without : List ℕ → Members → Members
@@ -83,3 +87,12 @@ IsTextsOf values (Some texts) = map view values ≡ map string texts
 -- each pair is of a row
 abbrev pub AreNamed : List FieldRow → List FieldPair → Type 0
 AreNamed rows pairs = All (λ p. ¬ All (λ row. row.id ≢ p.id) rows) pairs
+
+-- the members, with this at the name, if it is there
+abbrev pub with_some : List ℕ → Option Data → Members → Members
+with_some name None ms = ms
+with_some name (Some json) ms = put name json ms
+
+-- the members that show fields, with the version, the kind and the metadata
+abbrev pub named_members : VersionTable → List ℕ → Option Data → Members → Members
+named_members table version own ms = with_some metadata own (put kind (string table.kind) (put api_version (string version) ms))

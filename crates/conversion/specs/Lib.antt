@@ -3,5 +3,7 @@ pub mod Causes
 pub mod Writing
 pub mod Reading
 pub mod Showing
+pub mod Paths
+pub mod Whole
 pub mod Laws
 pub mod Code

@@ -30,7 +30,8 @@ pub record IsHeld (tree : Data) (row : FieldRow) (value : FieldValue) : Type 0 w
 
 -- the cases of a row: its field is read, or is absent
 abbrev pub IsRead : Mode → Data → FieldRow → Option FieldValue → Type 0
-IsRead mode tree row read = ((value : FieldValue) × (read ≡ Some value) × IsHeld tree row value) ⊎ (IsAbsent tree row.path × (read ≡ default_in mode row))
+IsRead mode tree row read = ((value : FieldValue) × (read ≡ Some value) × IsHeld tree row value)
+    ⊎ (IsAbsent tree row.path × (read ≡ default_in mode row))
 
 -- ---- all rows
 
@@ -51,7 +52,8 @@ pub record IsMisspelled (tree : Data) (row : FieldRow) : Type 0 where
 
 -- the row meets no case, by this path and cause
 abbrev pub IsFault : Data → FieldRow → Names → ReadCause → Type 0
-IsFault tree row path cause = (IsBlocked tree row.path path × (cause ≡ NotObject)) ⊎ (IsMisspelled tree row × (path ≡ row.path) × (cause ≡ cause_of row.ty row.form))
+IsFault tree row path cause = (IsBlocked tree row.path path × (cause ≡ NotObject))
+    ⊎ (IsMisspelled tree row × (path ≡ row.path) × (cause ≡ cause_of row.ty row.form))
 
 -- the first row that meets no case
 pub record IsFirstFault (mode : Mode) (rows : List FieldRow) (tree : Data) (path : Names) (cause : ReadCause) : Type 0 where

@@ -1,18 +1,13 @@
 -- The object that shows what a map holds: the least one in which each held field stands at its path.
-use Rattle.std.specs.Prelude.{◌≡◌, ◌≢◌, ℕ, List, [], ◌∷◌, None, All, Any, IfSome, IsSome}
+use Rattle.std.specs.Prelude.{◌≢◌, ℕ, List, [], ◌∷◌, All, Any, IfSome, IsSome}
 use Rattle.fields.specs.Map.{value_at}
 use Rattle.fields.specs.Order.{Rises}
-use Rattle.fields.specs.Table.{type_of, LeadsThrough}
+use Rattle.fields.specs.Table.{LeadsThrough}
 use Rattle.fields.specs.declared.map.FieldPair.{FieldPair}
 use Rattle.fields.specs.declared.table.FieldRow.{FieldRow}
 use Rattle.serde_json.specs.Data.{Data, null, boolean, number, string, array, object, Members, no_members, member}
 use Rattle.conversion.specs.Trees.{Names, Stands, IsObject}
 use Rattle.conversion.specs.Reading.{IsHeld}
-
--- the map holds fields of the rows alone, each with a value of its type
-pub record IsOf (rows : List FieldRow) (held : List FieldPair) : Type 0 where
-  pub typed : All (λ row. IfSome (value_at held row.id) (λ value. type_of value ≡ row.ty)) rows
-  pub only : (id : List ℕ) → All (λ row. row.id ≢ id) rows → value_at held id ≡ None
 
 abbrev pub names_of : Members → List (List ℕ)
 names_of no_members = []

@@ -1,8 +1,7 @@
 -- How values of fields are written as JSON, in each form.
-use Rattle.std.specs.Prelude.{◌≡◌, map, not, FitsSigned, ℤ}
-use Rattle.std.specs.Int.{w64}
+use Rattle.std.specs.Prelude.{◌≡◌, map, not}
 use Rattle.std.specs.Fmt.{signed_decimal}
-use Rattle.fields.specs.Table.{type_of}
+use Rattle.fields.specs.Table.{IsInt64, type_of}
 use Rattle.fields.specs.declared.field.Form.{Form}
 use Rattle.fields.specs.declared.field.Form.TheVariants.{Same, Not, Decimal}
 use Rattle.fields.specs.declared.table.FieldRow.{FieldRow}
@@ -11,10 +10,6 @@ use Rattle.fields.specs.declared.value.FieldValue.TheVariants.{Bool, Int, Text, 
 use Rattle.serde_json.specs.Data.{Data, boolean, number, string, array}
 use Rattle.serde_json.specs.Find.{of_integer}
 use Rattle.serde_json.specs.View.{items_of}
-
--- a whole number of 64 bits
-abbrev pub IsInt64 : ℤ → Type 0
-IsInt64 z = FitsSigned w64 z
 
 -- the JSON is the value in the form. `Not` is a form of booleans, and `Decimal` of whole numbers: their decimal text,
 -- with a minus sign below 0

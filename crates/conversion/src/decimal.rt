@@ -1,7 +1,7 @@
 //! Whole numbers as texts.
 ghost use Rattle.std.specs.Prelude.{◌≡◌, ◌≢◌, ℤ, IfSome, IfNone};
 ghost use Rattle.std.specs.Fmt.{signed_decimal};
-ghost use Rattle.conversion.specs.Writing.{IsInt64};
+ghost use Rattle.fields.specs.Table.{IsInt64};
 
 use itoa::Buffer;
 

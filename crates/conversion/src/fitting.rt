@@ -1,14 +1,14 @@
 //! Whether fields are those of a table.
 ghost use Rattle.std.specs.Prelude.{◌≡◌, ◌≢◌, ◌↔◌, IsTrue, All, IfSome};
+ghost use Rattle.fields.specs.Fits.{Fits};
 ghost use Rattle.fields.specs.Map.{value_at};
-ghost use Rattle.fields.specs.Table.{type_of};
+ghost use Rattle.fields.specs.Table.{IsValueOf};
 ghost use Rattle.conversion.specs.Code.{AreNamed};
-ghost use Rattle.conversion.specs.Showing.{IsOf};
 
 use fields::{FieldPair, FieldRow, Fields, VersionTable};
 
 fn row_fits(row: &FieldRow, fields: &Fields) -> bool
-    ensures { IsTrue result ↔ IfSome (value_at fields.now row.now.id) (λ v. type_of v ≡ row.now.ty) }
+    ensures { IsTrue result ↔ IfSome (value_at fields.now row.now.id) (IsValueOf row.now.ty) }
 {
     match fields.get(row.id.bytes()) {
         Some(value) => value.ty() == row.ty,
@@ -17,7 +17,7 @@ fn row_fits(row: &FieldRow, fields: &Fields) -> bool
 }
 
 fn rows_fit(rows: &[FieldRow], fields: &Fields) -> bool
-    ensures { IsTrue result ↔ All (λ row. IfSome (value_at fields.now row.id) (λ v. type_of v ≡ row.ty)) rows.now }
+    ensures { IsTrue result ↔ All (λ row. IfSome (value_at fields.now row.id) (IsValueOf row.ty)) rows.now }
 {
     rows.iter().all(|row| row_fits(row, fields))
 }
@@ -40,14 +40,14 @@ fn are_named(rows: &[FieldRow], pairs: &[FieldPair]) -> bool
 }
 
 fn are_of(rows: &[FieldRow], fields: &Fields) -> bool
-    ensures { IsTrue result ↔ IsOf rows.now fields.now }
+    ensures { IsTrue result ↔ Fits rows.now fields.now }
 {
     rows_fit(rows, fields) && are_named(rows, fields.pairs())
 }
 
-/// Whether the fields are those of the table alone, each with a value of its type.
+/// Whether the fields are those of the table alone, each with a value that it can hold.
 pub fn fits(table: &VersionTable, fields: &Fields) -> bool
-    ensures { IsTrue result ↔ IsOf table.now.rows fields.now }
+    ensures { IsTrue result ↔ Fits table.now.rows fields.now }
 {
     are_of(table.rows.items(), fields)
 }

@@ -1,5 +1,6 @@
 //! What JSON trees read as.
 ghost use Rattle.std.specs.Prelude.{◌≡◌, All, IfOk, OnOk, IfErr, Option};
+ghost use Rattle.fields.specs.Fits.{Fits};
 ghost use Rattle.fields.specs.Map.{IsMap};
 ghost use Rattle.fields.specs.Table.{IdsRise, AreLawful, IsLawfulRow};
 ghost use Rattle.fields.specs.declared.value.FieldValue.{FieldValue};
@@ -7,7 +8,6 @@ ghost use Rattle.serde_json.specs.View.{view};
 ghost use Rattle.conversion.specs.Causes.{cause_of};
 ghost use Rattle.conversion.specs.Code.{IsFaultOf, IsFaultAt, IsRowTaken};
 ghost use Rattle.conversion.specs.Reading.{default_in, IsRead, Reads, IsReadFault};
-ghost use Rattle.conversion.specs.Showing.{IsOf};
 
 use crate::fault::{ReadCause, ReadFault};
 use crate::mode::Mode;
@@ -136,7 +136,7 @@ pub fn read_fields(
 ) -> Result<Fields, ReadFault>
     requires { AreLawful table.now.rows }
     ensures ok { IfOk result (Reads mode table.now.rows (view json.now)) }
-    ensures of { IfOk result (IsOf table.now.rows) }
+    ensures fits { IfOk result (Fits table.now.rows) }
     ensures bad { IfErr result (IsReadFault mode table.now.rows (view json.now)) }
 {
     read_rows(alloc, table.rows.items(), json, mode)

@@ -1,12 +1,13 @@
 //! Objects that show what a map of fields holds.
 ghost use Rattle.std.specs.Prelude.{◌≡◌, false, IfOk, IfSome, option_map};
+ghost use Rattle.fields.specs.Fits.{Fits};
 ghost use Rattle.fields.specs.Map.{value_at};
-ghost use Rattle.fields.specs.Table.{AreLawful, IsLawfulRow, type_of};
+ghost use Rattle.fields.specs.Table.{AreLawful, IsLawfulRow, IsValueOf};
 ghost use Rattle.serde_json.specs.View.{view, members_view};
 ghost use Rattle.serde_json.specs.Written.{has_float};
 ghost use Rattle.conversion.specs.Code.{members_in, IsPlaced, KeepsOrder, IsRowShown};
 ghost use Rattle.conversion.specs.Reading.{Reads};
-ghost use Rattle.conversion.specs.Showing.{IsOf, Shows};
+ghost use Rattle.conversion.specs.Showing.{Shows};
 ghost use Rattle.conversion.specs.declared.mode.Mode.TheVariants.{Stored};
 
 use crate::write::written;
@@ -17,7 +18,7 @@ use serde_json::{Map, Value, put};
 use std::alloc::{AllocError, Global};
 
 // The members of an object; none of what is no object.
-fn members_of(alloc: Global, old: Option<Value>) -> Map<String, Value>
+pub(crate) fn members_of(alloc: Global, old: Option<Value>) -> Map<String, Value>
     ensures { members_view result.entries ≡ members_in (option_map view old) }
 {
     let Some(old) = old else {
@@ -59,7 +60,7 @@ fn with_row(
     fields: &Fields,
 ) -> Result<Value, AllocError>
     requires lawful { IsLawfulRow row.now }
-    requires typed { IfSome (value_at fields.now row.now.id) (λ v. type_of v ≡ row.now.ty) }
+    requires typed { IfSome (value_at fields.now row.now.id) (IsValueOf row.now.ty) }
     ensures { IfOk result (λ v. IsRowShown row.now (value_at fields.now row.now.id) (view shown) (view v)) }
 {
     match fields.get(row.id.bytes()) {
@@ -73,7 +74,7 @@ fn with_row(
 
 fn shown_rows(alloc: Global, rows: &[FieldRow], fields: &Fields) -> Result<Value, Memory>
     requires lawful { AreLawful rows.now }
-    requires of { IsOf rows.now fields.now }
+    requires fits { Fits rows.now fields.now }
     ensures { IfOk result (λ v. Shows rows.now fields.now (view v)) }
 {
     let mut shown = Value::Object(Map::new(alloc));
@@ -90,11 +91,10 @@ fn shown_rows(alloc: Global, rows: &[FieldRow], fields: &Fields) -> Result<Value
 /// Read again in mode `Stored`, it gives the same fields.
 pub fn show_fields(alloc: Global, table: &VersionTable, fields: &Fields) -> Result<Value, Memory>
     requires lawful { AreLawful table.now.rows }
-    requires of { IsOf table.now.rows fields.now }
+    requires fits { Fits table.now.rows fields.now }
     ensures shown { IfOk result (λ v. Shows table.now.rows fields.now (view v)) }
     ensures no_float { IfOk result (λ v. has_float (view v) ≡ false) }
     ensures reads_back { IfOk result (λ v. Reads Stored table.now.rows (view v) fields.now) }
 {
-    let _pairs = fields.pairs();
     shown_rows(alloc, table.rows.items(), fields)
 }

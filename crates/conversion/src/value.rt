@@ -1,13 +1,13 @@
 //! The value that JSON spells.
 ghost use Rattle.std.specs.Prelude.{◌≡◌, ◌≢◌, ℤ, List, ℕ, Bool, IfOk, IfSome, IfNone, map};
-ghost use Rattle.fields.specs.Table.{IsFormOf};
+ghost use Rattle.fields.specs.Table.{IsFormOf, IsInt64};
 ghost use Rattle.fields.specs.declared.value.FieldType.{FieldType};
 ghost use Rattle.fields.specs.declared.value.FieldValue.{FieldValue};
 ghost use Rattle.serde_json.specs.Data.{number, string, array};
 ghost use Rattle.serde_json.specs.Find.{of_integer};
 ghost use Rattle.serde_json.specs.View.{view, items_of};
 ghost use Rattle.conversion.specs.Code.{IsSpelledAs, IsTextsOf};
-ghost use Rattle.conversion.specs.Writing.{IsInt64, IsWrittenIn};
+ghost use Rattle.conversion.specs.Writing.{IsWrittenIn};
 
 use crate::decimal::whole_of_text;
 use basis::Memory;

@@ -1,7 +1,6 @@
 -- What `convert` is to answer: the object in the version that is asked for, or why there is none.
 use Rattle.std.specs.Prelude.{ℕ, ◌≡◌, ◌≢◌, List, [], ◌∷◌, ◌++◌, codes}
-use Rattle.std.specs.List.{flat_map}
-use Rattle.conversion.specs.Causes.{cause_text}
+use Rattle.conversion.specs.Paths.{fault_text}
 use Rattle.flag_text.specs.Pieces.{pieces}
 use Rattle.gate_flags.specs.Values.{AreGateValues}
 use Rattle.gate_spec.specs.Gates.{cutoff as gate_cutoff}
@@ -20,16 +19,11 @@ use Rattle.emu_server.specs.declared.status.Status.TheVariants as status
 
 -- ---- lines
 
--- the names of a path, joined by dots
-abbrev pub dotted : List (List ℕ) → List ℕ
-dotted [] = []
-dotted (name ∷ names) = name ++ flat_map (λ inner. codes "." ++ inner) names
-
 -- why an object isn't converted
 abbrev pub convert_fault_line : ConvertFault → List ℕ
 convert_fault_line fault.NotAnObject = codes "object: not a JSON object\n"
 convert_fault_line fault.UnknownVersion = codes "object: unknown version\n"
-convert_fault_line (fault.Bad path cause) = codes "object: " ++ (dotted path ++ (codes ": " ++ (cause_text cause ++ codes "\n")))
+convert_fault_line (fault.Bad path cause) = codes "object: " ++ (fault_text path cause ++ codes "\n")
 convert_fault_line fault.UnknownTarget = codes "to: unknown version\n"
 convert_fault_line fault.Memory = codes ""
 

@@ -1,18 +1,17 @@
 //! The answers of the command `convert`.
 ghost use Rattle.std.specs.Prelude.{◌≡◌, ◌++◌, ◌∷◌, [], false, IfOk, codes, string_bytes};
-ghost use Rattle.std.specs.List.{flat_map};
-ghost use Rattle.conversion.specs.Causes.{cause_text};
+ghost use Rattle.conversion.specs.Paths.{fault_text};
 ghost use Rattle.minor_version.specs.Ranges.{IsEmulable};
 ghost use Rattle.schemas.specs.Rules.{first_of, last_of};
 ghost use Rattle.serde_json.specs.View.{view as tree_of};
 ghost use Rattle.serde_json.specs.Written.{has_float, compact_text};
-ghost use Rattle.emu_server.specs.Conversion.{dotted, convert_fault_line, IsDefaultView, IsConversionAt};
+ghost use Rattle.emu_server.specs.Conversion.{convert_fault_line, IsDefaultView, IsConversionAt};
 
 use crate::answer::Answer;
 use crate::groups::viewed;
 use crate::status::Status;
 use basis::Memory;
-use conversion::ReadCause;
+use conversion::{ReadCause, fault_text};
 use minor_version::{Minor, Text};
 use object_convert::{ConvertFault, convert};
 use release_view::View;
@@ -21,55 +20,29 @@ use schemas::Accepted;
 use serde_json::Value;
 use std::alloc::{AllocError, Global};
 
-/// The text, and behind it each name with a dot before it.
-fn with_inner(front: String, names: &[Text]) -> Result<String, AllocError>
-    ensures { IfOk result (λ s. string_bytes s ≡ string_bytes front ++ flat_map (λ name. codes "." ++ name) names.now) }
+fn unreadable_line(alloc: Global, fault: &str) -> Result<String, AllocError>
+    ensures { IfOk result (λ s. string_bytes s ≡ codes "object: " ++ (fault.now ++ codes "\n")) }
 {
-    let mut text = front;
-    for name in names {
-        let Ok(()) = text.push_str(".") else {
-            return Err(AllocError);
-        };
-        let Ok(()) = text.push_str(name.as_str()) else {
-            return Err(AllocError);
-        };
-    }
-    Ok(text)
+    format!(in alloc; "object: {fault}\n")
 }
 
-/// The names of a path, joined by dots.
-fn joined(alloc: Global, path: &[Text]) -> Result<String, AllocError>
-    ensures { IfOk result (λ s. string_bytes s ≡ dotted path.now) }
+fn unreadable(alloc: Global, path: &[Text], cause: ReadCause) -> Result<String, Memory>
+    ensures { IfOk result (λ s. string_bytes s ≡ codes "object: " ++ (fault_text path.now cause ++ codes "\n")) }
 {
-    match path {
-        [] => Ok(String::new(alloc)),
-        [first, rest @ ..] => with_inner(String::from_str(alloc, first.as_str())?, rest),
-    }
-}
-
-fn unreadable_line(alloc: Global, path: &str, cause: &str) -> Result<String, AllocError>
-    ensures { IfOk result (λ s. string_bytes s ≡ codes "object: " ++ (path.now ++ (codes ": " ++ (cause.now ++ codes "\n")))) }
-{
-    format!(in alloc; "object: {path}: {cause}\n")
-}
-
-fn unreadable(alloc: Global, path: &[Text], cause: ReadCause) -> Result<String, AllocError>
-    ensures { IfOk result (λ s. string_bytes s ≡ codes "object: " ++ (dotted path.now ++ (codes ": " ++ (cause_text cause ++ codes "\n")))) }
-{
-    let path = joined(alloc, path)?;
-    unreadable_line(alloc, path.as_str(), cause.text())
+    let fault = fault_text(alloc, path, cause)?;
+    Ok(unreadable_line(alloc, fault.as_str())?)
 }
 
 /// Why an object isn't converted.
-fn convert_refusal(alloc: Global, fault: &ConvertFault) -> Result<String, AllocError>
+fn convert_refusal(alloc: Global, fault: &ConvertFault) -> Result<String, Memory>
     ensures { IfOk result (λ s. string_bytes s ≡ convert_fault_line fault.now) }
 {
     match fault {
-        ConvertFault::NotAnObject => String::from_str(alloc, "object: not a JSON object\n"),
-        ConvertFault::UnknownVersion => String::from_str(alloc, "object: unknown version\n"),
+        ConvertFault::NotAnObject => Ok(String::from_str(alloc, "object: not a JSON object\n")?),
+        ConvertFault::UnknownVersion => Ok(String::from_str(alloc, "object: unknown version\n")?),
         ConvertFault::Bad { path, cause } => unreadable(alloc, path.items(), *cause),
-        ConvertFault::UnknownTarget => String::from_str(alloc, "to: unknown version\n"),
-        ConvertFault::Memory => String::from_str(alloc, ""),
+        ConvertFault::UnknownTarget => Ok(String::from_str(alloc, "to: unknown version\n")?),
+        ConvertFault::Memory => Ok(String::from_str(alloc, "")?),
     }
 }
 

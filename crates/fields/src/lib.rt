@@ -5,8 +5,6 @@ mod field;
 mod lawful;
 mod map;
 mod table;
-#[cfg(test)]
-mod tests;
 mod value;
 
 pub use field::{Field, FieldList, Form, Path, Spell, SpellList};

@@ -32,7 +32,8 @@ name_of a b c = record { first = a; second = b; third = c }
 
 -- what a function says of an entry is the entry's name
 abbrev pub Names : {E : Type 0} → (Bor E → Bor (List ℕ) × Bor (List ℕ) × Bor (List ℕ) → Type 0) → (E → Name) → Type 0
-Names {E} says named = (x : Bor E) (parts : Bor (List ℕ) × Bor (List ℕ) × Bor (List ℕ)) → says x parts → named x.now ≡ name_of parts.0.now parts.1.now parts.2.now
+Names {E} says named = (x : Bor E) (parts : Bor (List ℕ) × Bor (List ℕ) × Bor (List ℕ))
+    → says x parts → named x.now ≡ name_of parts.0.now parts.1.now parts.2.now
 
 -- what a function says of an entry is the outcome of the test
 abbrev pub Tells : {E : Type 0} → (Bor E → Bool → Type 0) → (E → Bool) → Type 0
@@ -40,7 +41,8 @@ Tells {E} says test = (x : Bor E) (is_so : Bool) → says x is_so → is_so ≡ 
 
 -- at each name the entries of that name are listed, in order
 abbrev pub IsListing : {E : Type 0} → (E → Name) → List E → Listed E → Type 0
-IsListing {E} name entries m = (a b c : List ℕ) → listed_at m a b c ≡ filter (λ x. is_same_name (name x).first (name x).second (name x).third a b c) entries
+IsListing {E} name entries m = (a b c : List ℕ)
+    → listed_at m a b c ≡ filter (λ x. is_same_name (name x).first (name x).second (name x).third a b c) entries
 
 -- one of the entries that are lent is so
 abbrev pub HasLent : {E : Type 0} → (E → Type 0) → Option (Bor (Vec (Bor E))) → Type 0

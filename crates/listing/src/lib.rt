@@ -10,8 +10,6 @@ use std::alloc::Global;
 use std::collections::BTreeMap;
 
 mod keys;
-#[cfg(test)]
-mod tests;
 
 pub use keys::{resource_of_field, version_of_spell};
 
@@ -42,8 +40,10 @@ pub fn add<'a, E>(
     c: &'a [u8],
     entry: &'a E,
 ) -> Result<(), Memory>
-    ensures puts { OnOk result ((x y z : List ℕ) → listed_at listing.new x y z ≡ cond (is_same_name a.now b.now c.now x y z) (listed_at listing.old x y z ++ entry.now ∷ []) (listed_at listing.old x y z)) }
-    ensures grows { OnOk result ((named : E → Name) (entries : List E) → named entry.now ≡ name_of a.now b.now c.now → IsListing named entries listing.old → IsListing named (entries ++ entry.now ∷ []) listing.new) }
+    ensures puts { OnOk result ((x y z : List ℕ) → let before = listed_at listing.old x y z in
+        listed_at listing.new x y z ≡ cond (is_same_name a.now b.now c.now x y z) (before ++ entry.now ∷ []) before) }
+    ensures grows { OnOk result ((named : E → Name) (entries : List E) → named entry.now ≡ name_of a.now b.now c.now
+        → IsListing named entries listing.old → IsListing named (entries ++ entry.now ∷ []) listing.new) }
     ensures err { OnErr result ((x y z : List ℕ) → listed_at listing.new x y z ≡ listed_at listing.old x y z) }
 {
     if let Some(items) = listing.get_mut(&(a, b, c)) {
@@ -68,7 +68,8 @@ pub fn list_those_by<'a, E, K: Fn(&'a E) -> bool, F: Fn(&'a E) -> Parts<'a>>(
 ) -> Result<Listing<'a, E>, Memory>
     requires tells { K.IsAlwaysCallable kept }
     requires names { F.IsAlwaysCallable name }
-    ensures { IfOk result (λ listing. (test : E → Bool) (named : E → Name) → Tells (K.post kept) test → Names (F.post name) named → IsListing named (filter test entries.now) listing) }
+    ensures { IfOk result (λ listing. (test : E → Bool) (named : E → Name)
+        → Tells (K.post kept) test → Names (F.post name) named → IsListing named (filter test entries.now) listing) }
 {
     let mut listing: Listing<'a, E> = BTreeMap::new(alloc);
     for entry in entries {
@@ -91,7 +92,8 @@ pub fn list_by<'a, E, F: Fn(&'a E) -> Parts<'a>>(
     name: F,
 ) -> Result<Listing<'a, E>, Memory>
     requires { F.IsAlwaysCallable name }
-    ensures { IfOk result (λ listing. (named : E → Name) → Names (F.post name) named → IsListing named entries.now listing) }
+    ensures { IfOk result (λ listing. (named : E → Name)
+        → Names (F.post name) named → IsListing named entries.now listing) }
 {
     list_those_by(alloc, entries, |_| true, name)
 }

@@ -6,44 +6,22 @@ use Rattle.fields.specs.declared.table.FieldRow.{FieldRow}
 use Rattle.fields.specs.declared.table.VersionTable.{VersionTable}
 use Rattle.release_view.specs.Views.{version_table_in}
 use Rattle.release_view.specs.declared.known.KnownVersion.{KnownVersion}
-use Rattle.serde_json.specs.Data.{Data, object}
-use Rattle.serde_json.specs.Find.{get, get_member}
+use Rattle.serde_json.specs.Data.{Data}
+use Rattle.serde_json.specs.Find.{get}
+use Rattle.serde_json.specs.Read.{read}
 use Rattle.conversion.specs.Reading.{Reads}
 use Rattle.conversion.specs.Trees.{Names}
 use Rattle.conversion.specs.declared.mode.Mode.TheVariants.{Stored}
 use Rattle.conversion.specs.declared.fault.ReadCause.{ReadCause}
 use Rattle.conversion.proofs.FaultLemmas.{one_fault}
 use Rattle.conversion.proofs.ReadLemmas.{reads_as_one, faultless}
-use Rattle.conversion.proofs.SameLemmas.{shows_as_one}
 use Rattle.conversion.proofs.TreeLemmas.{some_one, not_both}
+use Rattle.conversion.proofs.WholeReadLemmas.{one_whole}
+use Rattle.conversion.specs.Whole.{metadata, IsTextOf, IsWhole}
 use Rattle.object_convert.specs.Convert.{table_of, IsRead, IsConverted, Converts, IsUnreadable, IsTreeFault, IsConvertFault}
 use Rattle.object_convert.specs.Laws.{HasOneAnswer}
-use Rattle.object_convert.specs.Objects.{api_version, kind, metadata, IsTextOf, IsWhole}
 use Rattle.object_convert.specs.declared.fault.ConvertFault.{ConvertFault}
 use Rattle.object_convert.specs.declared.fault.ConvertFault.TheVariants.{NotAnObject, UnknownVersion, Bad, UnknownTarget, Memory}
-use Rattle.object_convert.proofs.MemberLemmas.{same_members}
-
--- ---- one whole object
-
-same_get_at : (table : VersionTable) (version : List ℕ) (held : List FieldPair) (own : Option Data) (a b : Data) (h : IsWhole table version held own a) (g : IsWhole table version held own b) (name : List ℕ)
-    → (p q r : Bool) → bytes_eq name api_version ≡ p → bytes_eq name kind ≡ q → bytes_eq name metadata ≡ r → get name a ≡ get name b
-same_get_at table version held own a b h g name true q r is_version is_kind is_metadata =
-    subst (λ n. get n a ≡ get n b) (sym ((bytes_eq-Decides name api_version).0 is_version)) (h.versioned ∙ sym g.versioned)
-same_get_at table version held own a b h g name false true r is_version is_kind is_metadata =
-    subst (λ n. get n a ≡ get n b) (sym ((bytes_eq-Decides name kind).0 is_kind)) (h.of_kind ∙ sym g.of_kind)
-same_get_at table version held own a b h g name false false true is_version is_kind is_metadata =
-    subst (λ n. get n a ≡ get n b) (sym ((bytes_eq-Decides name metadata).0 is_metadata)) (h.described ∙ sym g.described)
-same_get_at table version held own a b h g name false false false is_version is_kind is_metadata =
-    let not : (other : List ℕ) → bytes_eq name other ≡ false → name ≢ other = λ other e same. absurd (let s : true ≡ false = sym ((bytes_eq-Decides name other).1 same) ∙ e in cc) in
-    h.others name (not api_version is_version) (not kind is_kind) (not metadata is_metadata)
-    ∙ ap (get name) (shows_as_one table.rows held h.fields g.fields h.shows g.shows)
-    ∙ sym (g.others name (not api_version is_version) (not kind is_kind) (not metadata is_metadata))
-
-one_whole : (table : VersionTable) (version : List ℕ) (held : List FieldPair) (own : Option Data) (a b : Data) → IsWhole table version held own a → IsWhole table version held own b → a ≡ b
-one_whole table version held own a b h g =
-    let same : (name : List ℕ) → get_member name h.members ≡ get_member name g.members = λ name.
-    ap (get name) (sym h.object) ∙ same_get_at table version held own a b h g name (bytes_eq name api_version) (bytes_eq name kind) (bytes_eq name metadata) refl refl refl ∙ ap (get name) g.object in
-    h.object ∙ ap object (same_members h.members g.members h.order g.order same) ∙ sym g.object
 
 -- ---- one reading
 
@@ -110,7 +88,7 @@ not_refused versions tree to shown Memory h k = refl
 -- ---- of a text
 
 same_tree : (text : List ℕ) (a b : Data) → IsTextOf text a → IsTextOf text b → a ≡ b
-same_tree text a b h g = some_one _ a b h.0 g.0
+same_tree text a b h g = some_one (read text) a b h.read g.read
 
 same_fault : (versions : List KnownVersion) (text to : List ℕ) (f g : ConvertFault) → ((tree : Data) × IsTextOf text tree × IsTreeFault versions tree to f) → ((tree : Data) × IsTextOf text tree × IsTreeFault versions tree to g) → f ≢ Memory → g ≢ Memory → f ≡ g
 same_fault versions text to f g h k some other =

@@ -1,4 +1,2 @@
-pub mod MemberLemmas
-pub mod WholeLemmas
 pub mod SpellLemmas
 pub mod AnswerLemmas

@@ -2,27 +2,15 @@
 use Rattle.std.proofs.Common.{◌≡◌, ◌&&◌, ℕ, Bool, true, List, [], ◌∷◌, Option, Some, None, option_map, option_and_then, find, map, Contains, refl, sym, ◌∙◌, ap, subst, bytes_eq}
 use Rattle.std.proofs.lemmas.Bool.{and_parts}
 use Rattle.std.proofs.lemmas.Slice.Eq.{bytes_eq-Decides}
-use Rattle.fields.specs.declared.table.FieldRow.{FieldRow}
+use Rattle.fields.specs.Fits.{AreOfSameFields}
 use Rattle.fields.specs.declared.table.VersionTable.{VersionTable}
 use Rattle.release_view.specs.Spelling.{SpellAlike}
 use Rattle.release_view.specs.Views.{has_version_text, is_of_kind, is_of_resource, kind_table_in, version_table_in}
 use Rattle.release_view.specs.declared.known.KnownVersion.{KnownVersion}
 use Rattle.release_view.proofs.ListLemmas.{found}
 use Rattle.serde_json.specs.Data.{Data}
-use Rattle.conversion.specs.Laws.{kind_of, SpellTheSame}
+use Rattle.conversion.specs.Whole.{api_version, kind, text_at}
 use Rattle.object_convert.specs.Convert.{table_of}
-use Rattle.object_convert.specs.Objects.{api_version, kind, text_at}
-
-same_kinds : (rows others : List FieldRow) → map (λ r. r.id) rows ≡ map (λ r. r.id) others → map (λ r. r.ty) rows ≡ map (λ r. r.ty) others → map kind_of rows ≡ map kind_of others
-same_kinds [] [] ids types = refl
-same_kinds [] (s ∷ ss) ids types = absurd cc
-same_kinds (r ∷ rs) [] ids types = absurd cc
-same_kinds (r ∷ rs) (s ∷ ss) ids types =
-    let head : kind_of r ≡ kind_of s = (let id : r.id ≡ s.id = cc in let ty : r.ty ≡ s.ty = cc in λ i. record { id = id i; ty = ty i }) in
-    let more_ids : map (λ r. r.id) rs ≡ map (λ r. r.id) ss = cc in
-    let more_types : map (λ r. r.ty) rs ≡ map (λ r. r.ty) ss = cc in
-    let tail : map kind_of rs ≡ map kind_of ss = same_kinds rs ss more_ids more_types in
-    λ i. head i ∷ tail i
 
 -- a table that a look-up gives is that of a version that passes
 known_at : (test : KnownVersion → Bool) (versions : List KnownVersion) (table : VersionTable) (o : Option KnownVersion) → find test versions ≡ o → option_map (λ v. v.table) o ≡ Some table → (v : KnownVersion) × Contains versions v × (test v ≡ true) × (v.table ≡ table)
@@ -38,7 +26,7 @@ named_at versions table (Some version) None h = absurd cc
 named_at versions table (Some version) (Some name) h = let k = known (is_of_kind version name) versions table h in (k.0, k.1, k.3)
 
 pub same_fields : (versions : List KnownVersion) (tree : Data) (to group resource : List ℕ) (table target : VersionTable) → SpellAlike versions → Some table ≡ table_of versions tree → group ≡ table.group → resource ≡ table.resource
-    → Some target ≡ version_table_in versions to group resource → SpellTheSame table.rows target.rows
+    → Some target ≡ version_table_in versions to group resource → AreOfSameFields table.rows target.rows
 same_fields versions tree to group resource table target alike is of_group of_resource found =
     let from = named_at versions table (text_at api_version tree) (text_at kind tree) (sym is) in
     let into = known (is_of_resource to group resource) versions target (sym found) in
@@ -47,4 +35,4 @@ same_fields versions tree to group resource table target alike is of_group of_re
     let same_group : from.0.table.group ≡ into.0.table.group = ap (λ (t : VersionTable). t.group) from.2 ∙ sym of_group ∙ sym ((bytes_eq-Decides into.0.table.group group).0 front.1) in
     let same_resource : from.0.table.resource ≡ into.0.table.resource = ap (λ (t : VersionTable). t.resource) from.2 ∙ sym of_resource ∙ sym ((bytes_eq-Decides into.0.table.resource resource).0 parts.1) in
     let same = alike from.0 into.0 from.1 into.1 same_group same_resource in
-    subst (λ (t : VersionTable). SpellTheSame t.rows target.rows) from.2 (subst (λ (t : VersionTable). SpellTheSame from.0.table.rows t.rows) into.3 (same_kinds from.0.table.rows into.0.table.rows same.ids same.types))
+    subst (λ (t : VersionTable). AreOfSameFields t.rows target.rows) from.2 (subst (λ (t : VersionTable). AreOfSameFields from.0.table.rows t.rows) into.3 same)

@@ -1,21 +1,22 @@
 //! Objects from one version of their resource to another.
 ghost use Rattle.std.specs.Prelude.{◌≡◌, ◌↔◌, ◌∷◌, [], false, IsTrue, IfOk, OnOk, IfErr, IfSome, option_copied};
 ghost use Rattle.conversion.specs.Reading.{Reads};
-ghost use Rattle.conversion.specs.Showing.{IsOf};
+ghost use Rattle.conversion.specs.Whole.{metadata};
 ghost use Rattle.conversion.specs.declared.mode.Mode.TheVariants.{Stored};
+ghost use Rattle.fields.specs.Fits.{Fits};
 ghost use Rattle.fields.specs.Table.{AreLawful};
 ghost use Rattle.object_convert.specs.Code.{IsObjectFault, IsMetadataFault};
 ghost use Rattle.object_convert.specs.Convert.{table_of, IsConverted, Converts, IsTreeFault, IsConvertFault};
-ghost use Rattle.object_convert.specs.Objects.{metadata, HasWholeMetadata};
+ghost use Rattle.object_convert.specs.Objects.{HasWholeMetadata};
 ghost use Rattle.serde_json.specs.View.{view as tree_of};
 ghost use Rattle.serde_json.specs.Written.{has_float};
 
 use crate::fault::ConvertFault;
-use crate::number::has_float;
-use crate::object::{object_of, taken, text_at};
-use crate::whole::whole;
 use basis::Memory;
-use conversion::{Mode, ReadCause, ReadFault, read_fields, there_and_back};
+use conversion::{
+    Mode, ReadCause, ReadFault, has_float, object_of, read_fields, taken, text_at, there_and_back,
+    whole_object,
+};
 use fields::{Fields, Path, VersionTable};
 use minor_version::Text;
 use release_view::{View, versions_spell_alike};
@@ -66,7 +67,7 @@ fn metadata_fault(alloc: Global) -> ConvertFault
 fn fields_of(alloc: Global, table: &VersionTable, json: &Value) -> Result<Fields, ConvertFault>
     requires { AreLawful table.now.rows }
     ensures reads { IfOk result (Reads Stored table.now.rows (tree_of json.now)) }
-    ensures of { IfOk result (IsOf table.now.rows) }
+    ensures fits { IfOk result (Fits table.now.rows) }
     ensures whole { OnOk result (HasWholeMetadata (tree_of json.now)) }
     ensures fault { IfErr result (IsObjectFault table.now.rows (tree_of json.now)) }
 {
@@ -90,10 +91,7 @@ fn converted(alloc: Global, view: &View, json: Value, to: &str) -> Result<Value,
     let Some(table) = table_of(view, &json) else {
         return Err(ConvertFault::UnknownVersion);
     };
-    let fields = match fields_of(alloc, table, &json) {
-        Ok(fields) => fields,
-        Err(fault) => return Err(fault),
-    };
+    let fields = fields_of(alloc, table, &json)?;
     let (group, resource) = (table.group.bytes(), table.resource.bytes());
     let Some(target) = view.table_of_version(to, group, resource) else {
         return Err(ConvertFault::UnknownTarget);
@@ -101,10 +99,7 @@ fn converted(alloc: Global, view: &View, json: Value, to: &str) -> Result<Value,
     versions_spell_alike(view);
     there_and_back(table, target, &fields);
     let metadata = taken(alloc, json, "metadata");
-    match whole(alloc, target, to, &fields, metadata) {
-        Ok(json) => Ok(json),
-        Err(Memory) => Err(ConvertFault::Memory),
-    }
+    Ok(whole_object(alloc, target, to, &fields, metadata)?)
 }
 
 /// The object whose text is given, in the version `to` of its resource, both versions by the release that is viewed. The
@@ -115,9 +110,8 @@ pub fn convert(alloc: Global, view: &View, object: &str, to: &str) -> Result<Val
     ensures no_float { IfOk result (λ v. has_float (tree_of v) ≡ false) }
     ensures fault { IfErr result (IsConvertFault view.now.versions object.now to.now) }
 {
-    match object_of(alloc, object) {
-        Ok(Some(json)) => converted(alloc, view, json, to),
-        Ok(None) => Err(ConvertFault::NotAnObject),
-        Err(Memory) => Err(ConvertFault::Memory),
+    match object_of(alloc, object.as_bytes())? {
+        Some(json) => converted(alloc, view, json, to),
+        None => Err(ConvertFault::NotAnObject),
     }
 }

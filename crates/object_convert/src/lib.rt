@@ -4,9 +4,6 @@
 mod converting;
 mod fault;
 mod law;
-mod number;
-mod object;
-mod whole;
 
 pub use converting::convert;
 pub use fault::ConvertFault;

@@ -1,7 +1,7 @@
 use Rattle.std.proofs.Common.{◌≡◌, sym, ◌∙◌, ap, subst}
 use Rattle.std.specs.Int.{w64}
 use Rattle.std.proofs.lemmas.Int.{to_z-of_z}
-use Rattle.conversion.specs.Writing.{IsInt64}
+use Rattle.fields.specs.Table.{IsInt64}
 use Rattle.std.specs.Fmt.{signed_decimal}
 use Rattle.conversion.proofs.DecimalLemmas.{read_decimal, not_refused, same_read, differs}
 use Rattle.conversion.proofs.decimal.whole_of_text.Goals as goal
