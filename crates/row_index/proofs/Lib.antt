@@ -1,3 +1,4 @@
 pub mod OnceLemmas
 pub mod MadeLemmas
 pub mod RowLemmas
+pub mod CutLemmas

@@ -15,7 +15,9 @@ use Rattle.gate_flags.specs.Values.{Gates}
 -- no gate guards, or the gate is on
 abbrev pub is_on : Gates → Option (List ℕ) → Bool
 is_on gates None = true
-is_on gates (Some gate) = list_any (λ r. bytes_eq r.name gate && r.value) gates.rows || list_any (λ r. bytes_eq r.name gate && r.value) gates.removed
+is_on gates (Some gate) =
+    list_any (λ r. bytes_eq r.name gate && r.value) gates.rows
+    || list_any (λ r. bytes_eq r.name gate && r.value) gates.removed
 
 -- the first spelling of the field's id
 abbrev pub spelling_in : List Spell → Field → Option Spell
@@ -23,7 +25,8 @@ spelling_in spells f = find (λ s. bytes_eq s.field f.id) spells
 
 -- the row of the field as it is spelled
 abbrev pub row_as : Bool → Field → Spell → FieldRow
-row_as on f s = record { id = f.id; ty = f.ty; required = f.required; on = on; path = s.path; form = s.form; default = s.default }
+row_as on f s =
+    record { id = f.id; ty = f.ty; required = f.required; on = on; path = s.path; form = s.form; default = s.default }
 
 -- the row of the field, where one of the spellings is of its id
 abbrev pub row_in : Gates → List Spell → Field → Option FieldRow

@@ -34,11 +34,9 @@ impl<'a> Model for RowIndex<'a> {
 }
 
 impl<'a> RowIndex<'a> {
-    ghost use Rattle.std.specs.Prelude.{◌≡◌, IfOk, true};
-    ghost use Rattle.gate_flags.specs.Values.{HasValue};
+    ghost use Rattle.std.specs.Prelude.{◌≡◌, IfOk};
     ghost use Rattle.lifecycle.specs.Entry.{named};
-    ghost use Rattle.schemas.specs.Cutoff.{fields_by, spells_by};
-    ghost use Rattle.schemas.specs.Rows.{AreRows};
+    ghost use Rattle.row_index.specs.Laws.{AreRowsOf, source_at};
 
     /// The index of an accepted history's fields and spellings that are dated at or before the release.
     pub fn at(
@@ -47,7 +45,7 @@ impl<'a> RowIndex<'a> {
         e: Minor,
         gates: &'a GateValues,
     ) -> Result<Self, Memory>
-        ensures { IfOk result (λ index. index ≡ record { fields = fields_by a.now.fields e; spells = spells_by a.now.spells e; gates = gates.now }) }
+        ensures { IfOk result (λ index. index ≡ source_at a.now e gates.now) }
     {
         let history = a.history();
         let fields = history.fields.items();
@@ -70,7 +68,7 @@ impl<'a> RowIndex<'a> {
 
     /// The rows of the version's table: the fields of its resource that it spells, in order of id.
     pub fn rows(&self, alloc: Global, name: ApiName<'a>) -> Result<FieldRows, Memory>
-        ensures { IfOk result (AreRows (λ gate. HasValue self.now.gates gate true) self.now.fields self.now.spells (named name.entry)) }
+        ensures { IfOk result (AreRowsOf self.now (named name.entry)) }
     {
         let Some(fields) = listed(&self.fields_by_resource, name.group, name.resource, &[]) else {
             return Ok(FieldRows::new());

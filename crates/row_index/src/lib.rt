@@ -8,4 +8,4 @@ mod law;
 mod made;
 
 pub use index::RowIndex;
-pub use law::version_has_one_table;
+pub use law::{cut_knows_same, version_has_one_table};
