@@ -7,3 +7,6 @@ pub mod TextLemmas
 pub mod LiveLemmas
 pub mod ViewLemmas
 pub mod GateLemmas
+pub mod KeptLemmas
+pub mod LaterLemmas
+pub mod SameViewLemmas

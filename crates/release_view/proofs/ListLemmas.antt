@@ -32,7 +32,7 @@ get_any xs k x below is = (k, below, is)
 pub witness : {X : Type 0} (P : X → Type 0) (xs : List X) → Any P xs → (x : X) × Contains xs x × P x
 witness P xs h = (h.1, get_any xs h.0 h.1 h.2 h.3, h.4)
 
-some_is : {X : Type 0} (x y : X) → Some x ≡ Some y → x ≡ y
+pub some_is : {X : Type 0} (x y : X) → Some x ≡ Some y → x ≡ y
 some_is x y e = let f : Option _ → _ = λ o. elim o [ None ↦ x | Some z ↦ z ] in ap f e
 
 found_at : {X : Type 0} (p : X → Bool) (y : X) (ys : List X) (x : X) (b : Bool) → p y ≡ b → cond b (Some y) (find p ys) ≡ Some x → (find p ys ≡ Some x → Member x ys × (p x ≡ true)) → Member x (y ∷ ys) × (p x ≡ true)

@@ -7,21 +7,25 @@ use Rattle.std.specs.Cmp.Lexicographic.{slice_cmp}
 use Rattle.std.specs.Ordering.{nat_cmp, ordering_then}
 use Rattle.std.proofs.lemmas.Bool.{and_parts, and_from, both_ways, false≢true, false_from_ne_true}
 use Rattle.std.proofs.lemmas.Cmp.{tied_itself, nat_list_cmp_total}
-use Rattle.std.proofs.lemmas.List.Elements.{All-cons, All-from_recursion}
+use Rattle.std.proofs.lemmas.List.Elements.{All-cons, All-contains, All-from_recursion}
 use Rattle.std.proofs.lemmas.Map.Keys.{sorted_head, sorted_tail}
 use Rattle.std.proofs.lemmas.Slice.Eq.{bytes_eq-Decides}
 use Rattle.basis.proofs.NameLemmas.{same_bytes}
+use Rattle.fields.specs.declared.table.VersionTable.{VersionTable}
 use Rattle.lifecycle.specs.Entry.{GroupVersionResource}
+use Rattle.lifecycle.specs.Names.{group_version}
 use Rattle.lifecycle.specs.Stability.{by_stability}
 use Rattle.lifecycle.specs.Tables.{decodable, live, warning}
-use Rattle.release_view.specs.Known.{Tables, name_of, deprecation, IsKnown, AreInPlace, AreKnown, Has, by_place}
+use Rattle.lifecycle.proofs.WordLemmas.{word_text_injective}
+use Rattle.row_index.specs.Laws.{AreRowsOf}
+use Rattle.release_view.specs.Known.{Tables, Naming, name_of, naming, naming_in, deprecation, IsKnown, AreInPlace, AreKnown, Has, by_place}
 use Rattle.release_view.specs.Order.{by_stability_total}
 use Rattle.release_view.specs.Served.{shown, served_as, served_of}
-use Rattle.release_view.specs.Views.{Viewed, has_name, is_shown_as, version_in, table_in, served_in, warning_in, is_live_of, has_live, IsBest}
-use Rattle.release_view.specs.Laws.{TellsTables, IsKindLive}
+use Rattle.release_view.specs.Views.{Viewed, has_name, is_shown_as, version_in, table_in, served_in, warning_in, is_live_of, has_live, has_version_text, is_of_kind, is_of_resource, IsBest, AreLive, IsOfKind, IsOfResource}
+use Rattle.release_view.specs.Laws.{Tells, IsKindLive, IsTableIn, IsShownIn, IsBestIn}
 use Rattle.release_view.specs.declared.known.KnownVersion.{KnownVersion}
 use Rattle.release_view.specs.declared.served.ServedVersion.{ServedVersion}
-use Rattle.release_view.proofs.ListLemmas.{found, finds, witness, some_from, some-find, given_of, gives}
+use Rattle.release_view.proofs.ListLemmas.{found, finds, witness, some_is, some_from, some-find, given_of, gives}
 
 equal_bytes : (a b : List ℕ) → bytes_eq a b ≡ true → a ≡ b
 equal_bytes a b h = (bytes_eq-Decides a b).0 h
@@ -48,10 +52,10 @@ module _ (name : GroupVersionResource) (group version resource : List ℕ) where
       (and_from (bytes_eq group name.group) (bytes_eq version name.version) (same_bytes group name.group (ap (λ n. n.group) h)) (same_bytes version name.version (ap (λ n. n.version) h)))
       (same_bytes resource name.resource (ap (λ n. n.resource) h))
 
-named_of : (name : GroupVersionResource) (v : KnownVersion) → has_name name v ≡ true → name_of v ≡ name
+pub named_of : (name : GroupVersionResource) (v : KnownVersion) → has_name name v ≡ true → name_of v ≡ name
 named_of name v h = named_so name v.table.group v.table.version v.table.resource h
 
-of_named : (name : GroupVersionResource) (v : KnownVersion) → name_of v ≡ name → has_name name v ≡ true
+pub of_named : (name : GroupVersionResource) (v : KnownVersion) → name_of v ≡ name → has_name name v ≡ true
 of_named name v h = so_named name v.table.group v.table.version v.table.resource h
 
 -- ---- by name
@@ -62,6 +66,23 @@ module _ (versions : List KnownVersion) (name : GroupVersionResource) where
 
   pub there_version : (v : KnownVersion) → version_in versions name ≡ Some v → Contains versions v × (name_of v ≡ name)
   there_version v h = let r = found (has_name name) versions v h in (r.0, named_of name v r.1)
+
+-- what is found by its texts is of them
+module _ (versions : List KnownVersion) (text : List ℕ) where
+  pub found_kind : (kind : List ℕ) (v : KnownVersion) → find (is_of_kind text kind) versions ≡ Some v → IsOfKind text kind v.table
+  found_kind kind v h =
+      let (of, k) = and_parts (has_version_text text v) (bytes_eq v.table.kind kind) (found (is_of_kind text kind) versions v h).1 in
+      record { of_text = equal_bytes (group_version v.table.group v.table.version) text of; of_kind = equal_bytes v.table.kind kind k }
+
+  pub found_resource : (group resource : List ℕ) (v : KnownVersion) → find (is_of_resource text group resource) versions ≡ Some v → IsOfResource text group resource v.table
+  found_resource group resource v h =
+      let (front, r) = and_parts (has_version_text text v && bytes_eq v.table.group group) (bytes_eq v.table.resource resource) (found (is_of_resource text group resource) versions v h).1 in
+      let (of, g) = and_parts (has_version_text text v) (bytes_eq v.table.group group) front in
+      record {
+        of_text = equal_bytes (group_version v.table.group v.table.version) text of;
+        of_group = equal_bytes v.table.group group g;
+        of_resource = equal_bytes v.table.resource resource r;
+      }
 
 some_option : {X Y : Type 0} (f : X → Y) (o : Option X) → IsSome (option_map f o) → (x : X) × (o ≡ Some x)
 some_option f None h = absurd (false≢true h)
@@ -138,13 +159,38 @@ module _ (tables : Tables) (on_names : List GroupVersionResource) (versions : Li
         sym (some-find (is_live_of group resource) versions) ∙ finds (is_live_of group resource) versions v among passes,
   )
 
-pub tells : (tables : Tables) (on_names : List GroupVersionResource) (view : Viewed) → AreKnown tables on_names view.versions → ((name : GroupVersionResource) → Contains on_names name → live tables.apis name ≡ true) → TellsTables tables.apis on_names view
-tells tables on_names view known lives = record {
-  tables = table_tells tables on_names view.versions known;
-  served = served_tells tables on_names view.versions known lives;
-  warned = warning_tells tables on_names view.versions known;
-  kinds = kind_tells tables on_names view.versions known;
-}
+  introduced_as : (name : GroupVersionResource) (v : KnownVersion) → version_in versions name ≡ Some v → naming tables.apis name ≡ Some (naming_in v)
+  introduced_as name v e = let (among, named) = there_version versions name v e in sym (ap (naming tables.apis) named) ∙ (is_known v among).named_as
+
+  is_table : (name : GroupVersionResource) (t : VersionTable) (v : KnownVersion) → version_in versions name ≡ Some v → v.table ≡ t → IsTableIn tables name t
+  is_table name t v e same =
+      let (among, named) = there_version versions name v e in
+      subst (λ (u : VersionTable). IsTableIn tables name u) same (record {
+        named = named;
+        kind = ap (option_map (λ (n : Naming). n.kind)) (introduced_as name v e);
+        rows = subst (λ n. AreRowsOf tables.source n v.table.rows) named (is_known v among).rows;
+      })
+
+  the_table : (name : GroupVersionResource) (t : VersionTable) (o : Option KnownVersion) → version_in versions name ≡ o → option_map (λ (v : KnownVersion). v.table) o ≡ Some t → IsTableIn tables name t
+  the_table name t None e h = absurd (let clash : None ≡ Some t = h in cc)
+  the_table name t (Some v) e h = is_table name t v e (some_is v.table t h)
+
+  -- the version of which a served one is shown
+  shown_of : (name : GroupVersionResource) (s : ServedVersion) → served_in versions name ≡ Some s → (v : KnownVersion) × Contains versions v × IsTrue v.served × (shown v ≡ s) × (name_of v ≡ name)
+  shown_of name s e =
+      let (there, passes) = found (is_shown_as name) (served_of versions) s e in
+      let (v, among, as_shown) = given_of served_as versions s there in
+      let (serves, is_shown) = served_one v v.served s refl as_shown in
+      let named : name_of v ≡ name = (λ i. record { group = (is_shown i).group; version = (is_shown i).version; resource = (is_shown i).resource }) ∙ named_so name s.group s.version s.resource passes in
+      (v, among, serves, is_shown, named)
+
+  the_shown : (name : GroupVersionResource) (s : ServedVersion) → served_in versions name ≡ Some s → IsShownIn tables name s
+  the_shown name s e =
+      let (v, among, serves, is_shown, named) = shown_of name s e in
+      subst (λ (u : ServedVersion). IsShownIn tables name u) is_shown (record {
+        named = named;
+        naming = sym (ap (naming tables.apis) named) ∙ (is_known v among).named_as;
+      })
 
 -- ---- the most stable
 
@@ -156,6 +202,11 @@ less_words Less p q tied less e = let clash : Less ≡ Equal = tied in cc
 less_words Greater p q tied less e = let clash : Greater ≡ Equal = tied in cc
 
 module _ (group resource : List ℕ) where
+  pub of_resource : (v : KnownVersion) → is_live_of group resource v ≡ true → (v.table.group ≡ group) × (v.table.resource ≡ resource)
+  of_resource v h =
+      let (front, r) = and_parts (v.live && bytes_eq v.table.group group) (bytes_eq v.table.resource resource) h in
+      (equal_bytes v.table.group group (and_parts v.live (bytes_eq v.table.group group) front).1, equal_bytes v.table.resource resource r)
+
   group_of : (v : KnownVersion) → is_live_of group resource v ≡ true → v.table.group ≡ group
   group_of v h =
       let (front, r) = and_parts (v.live && bytes_eq v.table.group group) (bytes_eq v.table.resource resource) h in
@@ -187,3 +238,49 @@ module _ (group resource : List ℕ) where
   -- the first of the live versions is the most stable
   pub best_first : (versions : List KnownVersion) (v : KnownVersion) → AreInPlace versions → find (is_live_of group resource) versions ≡ Some v → IsBest versions group resource v
   best_first versions v rise h = let r = found (is_live_of group resource) versions v h in record { among = r.0; is_live = r.1; best = first_best versions v rise h }
+
+module _ (tables : Tables) (on_names : List GroupVersionResource) (versions : List KnownVersion) (known : AreKnown tables on_names versions) where
+  lives_in : (name : GroupVersionResource) → live tables.apis name ≡ true → (v : KnownVersion) × Contains versions v × (name_of v ≡ name) × (v.live ≡ true)
+  lives_in name h =
+      let (v, e) = version_there versions name (known.each_live name h) in
+      let (among, named) = there_version versions name v e in
+      (v, among, named, ((known.exact v).0 among).is_live ∙ ap (live tables.apis) named ∙ h)
+
+  is_best : (group resource : List ℕ) (v : KnownVersion) → find (is_live_of group resource) versions ≡ Some v → IsBestIn tables.apis group resource v.table
+  is_best group resource v e =
+      let best = best_first group resource versions v known.order e in
+      let (g, r) = of_resource group resource v best.is_live in
+      let is = (known.exact v).0 best.among in
+      let is_live : v.live ≡ true = (and_parts v.live (bytes_eq v.table.group group) (and_parts (v.live && bytes_eq v.table.group group) (bytes_eq v.table.resource resource) best.is_live).0).0 in
+      record {
+        of_group = g;
+        of_resource = r;
+        best = record {
+          is_live = sym is.is_live ∙ is_live;
+          stable = λ other same_group same_resource lives word other_word text other_text.
+              let (w, also, named, w_live) = lives_in other lives in
+              let there = (known.exact w).0 also in
+              let own : v.word ≡ word = word_text_injective v.word word is.lawful text.0 (sym is.spelled ∙ text.1) in
+              let others : w.word ≡ other_word = word_text_injective w.word other_word there.lawful other_text.0 (sym there.spelled ∙ ap (λ n. n.version) named ∙ other_text.1) in
+              let passes : is_live_of group resource w ≡ true =
+              and_from (w.live && bytes_eq w.table.group group) (bytes_eq w.table.resource resource)
+              (and_from w.live (bytes_eq w.table.group group) w_live (same_bytes w.table.group group (ap (λ n. n.group) named ∙ same_group ∙ g)))
+              (same_bytes w.table.resource resource (ap (λ n. n.resource) named ∙ same_resource ∙ r)) in
+              λ worse. All-contains (λ (u : KnownVersion). is_live_of group resource u ≡ true → by_stability v.word u.word ≡ Greater → ⊥) versions w best.best also passes (ap (λ a. by_stability a w.word) own ∙ ap (by_stability word) others ∙ worse);
+        };
+      }
+
+  the_best : (group resource : List ℕ) (t : VersionTable) (o : Option KnownVersion) → find (is_live_of group resource) versions ≡ o → option_map (λ (v : KnownVersion). v.table) o ≡ Some t → IsBestIn tables.apis group resource t
+  the_best group resource t None e h = absurd (let clash : None ≡ Some t = h in cc)
+  the_best group resource t (Some v) e h = subst (λ (u : VersionTable). IsBestIn tables.apis group resource u) (some_is v.table t h) (is_best group resource v e)
+
+pub tells : (tables : Tables) (on_names : List GroupVersionResource) (view : Viewed) → AreKnown tables on_names view.versions → AreLive tables.apis on_names → Tells tables on_names view
+tells tables on_names view known lives = record {
+  decodes = table_tells tables on_names view.versions known;
+  tables = λ name t e. the_table tables on_names view.versions known name t (version_in view.versions name) refl e;
+  serves = served_tells tables on_names view.versions known lives;
+  shows = the_shown tables on_names view.versions known;
+  warned = warning_tells tables on_names view.versions known;
+  kinds = kind_tells tables on_names view.versions known;
+  best = λ group resource t e. the_best tables on_names view.versions known group resource t (find (is_live_of group resource) view.versions) refl e;
+}

@@ -15,6 +15,7 @@ pub record IsRowOf (name : List ℕ) (stage : Stage) (default locked : Bool) (ro
 
 -- the gates that the tables have, each with a value: the default of a locked one, and for a removed one the value that it keeps
 pub record AreGatesOf (tables : List GateEntry) (gates : Gates) : Type 0 where
-  pub found : (name : List ℕ) (stage : Stage) (default locked : Bool) → Any (IsRowOf name stage default locked) gates.rows ↔ IsFoundIn tables name stage default locked
+  pub found : (name : List ℕ) (stage : Stage) (default locked : Bool) →
+      Any (IsRowOf name stage default locked) gates.rows ↔ IsFoundIn tables name stage default locked
   pub locked : All (λ row. row.locked ≡ true → row.value ≡ row.default) gates.rows
   pub removed : (gate : RemovedGate) → Contains gates.removed gate ↔ IsRemovedIn tables gate.name gate.value

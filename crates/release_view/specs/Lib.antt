@@ -3,7 +3,10 @@ pub mod Served
 pub mod Gates
 pub mod Views
 pub mod Spelling
+pub mod Kept
 pub mod Fields
 pub mod Laws
 pub mod Order
 pub mod Parts
+pub mod Later
+pub mod Same

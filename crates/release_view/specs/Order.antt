@@ -9,10 +9,15 @@ use Rattle.release_view.specs.Known.{by_place}
 use Rattle.release_view.specs.declared.known.KnownVersion.{KnownVersion}
 
 pub by_stability_total : IsTotalOrder by_stability
-by_stability_total = then_total (on_total (λ (w : VersionWord). rank_of w.level) nat_cmp_total) (then_total (back_total (on_total (λ (w : VersionWord). w.major) nat_cmp_total)) (back_total (on_total (λ (w : VersionWord). number_of w.level) nat_cmp_total)))
+by_stability_total =
+    then_total (on_total (λ (w : VersionWord). rank_of w.level) nat_cmp_total)
+    (then_total (back_total (on_total (λ (w : VersionWord). w.major) nat_cmp_total))
+    (back_total (on_total (λ (w : VersionWord). number_of w.level) nat_cmp_total)))
 
 pub by_place_total : IsTotalOrder by_place
-by_place_total = then_total (then_total (on_texts (λ (v : KnownVersion). v.table.group)) (on_total (λ (v : KnownVersion). v.word) by_stability_total)) (on_texts (λ (v : KnownVersion). v.table.resource))
+by_place_total =
+    then_total (then_total (on_texts (λ (v : KnownVersion). v.table.group)) (on_total (λ (v : KnownVersion). v.word) by_stability_total))
+    (on_texts (λ (v : KnownVersion). v.table.resource))
 
 pub same_place : IsEquivalence (eq_by_cmp by_place)
 same_place = eq_by_cmp_equiv by_place_total

@@ -9,4 +9,7 @@ HaveLawfulTables versions = All (λ v. AreLawful v.table.rows) versions
 
 -- the versions of one resource spell the same fields
 abbrev pub SpellAlike : List KnownVersion → Type 0
-SpellAlike versions = (v w : KnownVersion) → Contains versions v → Contains versions w → v.table.group ≡ w.table.group → v.table.resource ≡ w.table.resource → AreOfSameFields v.table.rows w.table.rows
+SpellAlike versions =
+    (v w : KnownVersion) → Contains versions v → Contains versions w →
+    v.table.group ≡ w.table.group → v.table.resource ≡ w.table.resource →
+    AreOfSameFields v.table.rows w.table.rows

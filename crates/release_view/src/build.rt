@@ -15,7 +15,7 @@ use basis::Memory;
 use fields::VersionTable;
 use gate_flags::GateValues;
 use lifecycle::{ApiChange, ApiEntry, ApiName, version_word};
-use minor_version::{Blob, Minor, Text};
+use minor_version::{Minor, Text, TextFault};
 use row_index::RowIndex;
 use runtime_config::Enabled;
 use schemas::Accepted;
@@ -33,7 +33,11 @@ fn planned<'a>(
     let Some(warning) = index.warning(name) else {
         return Ok(None);
     };
-    let replacement = Blob::copy(alloc, warning.replacement)?;
+    let replacement = match Text::copy(alloc, warning.replacement) {
+        Ok(replacement) => replacement,
+        Err(TextFault::Memory) => return Err(Memory),
+        Err(TextFault::NotUtf8) => unreachable!(),
+    };
     Ok(Some(Planned {
         since: warning.since,
         removal: warning.removal,
@@ -148,7 +152,7 @@ fn known_versions(
 }
 
 /// The view of the release e, with the values of its gates and the versions that it serves.
-pub fn view(
+pub fn view_at(
     alloc: Global,
     a: &Accepted,
     e: Minor,

@@ -1,14 +1,14 @@
 //! Versions of resources, as a view holds them.
 use fields::VersionTable;
 use lifecycle::VersionWord;
-use minor_version::{Blob, Minor, Text};
+use minor_version::{Minor, Text};
 
 /// A deprecation of a version: the release since which it holds, the planned removal and the version to use.
 #[derive(Debug, Drop)]
 pub struct Planned {
     pub since: Minor,
     pub removal: Minor,
-    pub replacement: Blob,
+    pub replacement: Text,
 }
 
 /// A version of a resource whose stored objects a release reads, and what the release knows of it.

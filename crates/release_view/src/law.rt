@@ -1,13 +1,14 @@
 //! What the tables of a release say of its view, each as the contract of a function that does nothing.
-ghost use Rattle.std.specs.Prelude.{◌≡◌, ◌≤◌, true, Contains};
+ghost use Rattle.std.specs.Prelude.{◌≡◌, ◌≤◌};
 ghost use Rattle.flag_text.specs.Pieces.{pieces};
 ghost use Rattle.gate_flags.specs.Flags.{IsFeatureText};
 ghost use Rattle.gate_flags.specs.Values.{AreGateValues};
 ghost use Rattle.gate_spec.specs.Gates.{cutoff as gate_cutoff};
-ghost use Rattle.lifecycle.specs.Entry.{GroupVersionResource};
-ghost use Rattle.lifecycle.specs.Tables.{cutoff, live};
-ghost use Rattle.release_view.specs.Laws.{HasOneView, TellsTables};
-ghost use Rattle.release_view.specs.Views.{IsViewable, IsViewOf};
+ghost use Rattle.lifecycle.specs.Tables.{cutoff};
+ghost use Rattle.release_view.specs.Later.{ReadsLiveOf};
+ghost use Rattle.release_view.specs.Laws.{HasOneView};
+ghost use Rattle.release_view.specs.Same.{HaveSameTables, HaveSameViews, SpeaksOf, TakeSameTexts};
+ghost use Rattle.release_view.specs.Views.{IsViewable};
 ghost use Rattle.runtime_config.specs.Config.{AreServed};
 ghost use Rattle.schemas.specs.Cutoff.{cutoff as history_cutoff};
 ghost use Rattle.schemas.specs.Rules.{first_of, last_of};
@@ -19,20 +20,22 @@ use runtime_config::Enabled;
 use schemas::{Accepted, History};
 
 /// The tables of a release, the values of its gates and its served versions determine its view; where the history is cut
-/// at the release, the view is the same.
-pub fn tables_determine_view(history: &History, cut: &History, e: Minor)
-    requires { cut.now ≡ history_cutoff history.now e }
+/// at the release or at a later one, the view is the same.
+pub fn tables_determine_view(history: &History, cut: &History, e: Minor, o: Minor)
+    requires cut { cut.now ≡ history_cutoff history.now o }
+    requires later { e ≤ o }
+    requires within { o ≤ last_of history.now }
     ensures { HasOneView history.now cut.now e }
 {}
 
-/// What is looked up in a view of the release e is what the tables and the served names say.
-pub fn view_tells_tables(view: &View, history: &History, e: Minor, on: &Enabled)
-    requires of { IsViewOf history.now e view.now.gates on.now view.now }
-    requires lives { (name : GroupVersionResource) → Contains on.now name → live (cutoff history.now.apis e) name ≡ true }
-    ensures { TellsTables (cutoff history.now.apis e) on.now view.now }
-{
-    let _view = view;
-}
+/// Histories that have the same tables at a release of which both speak have the same views of it, and take the same texts.
+pub fn same_tables_view_alike(history: &History, other: &History, e: Minor)
+    requires same { HaveSameTables history.now other.now e }
+    requires of_first { SpeaksOf history.now e }
+    requires of_second { SpeaksOf other.now e }
+    ensures views { HaveSameViews history.now other.now e }
+    ensures texts { TakeSameTexts history.now other.now e }
+{}
 
 /// The release e of an accepted history may be viewed with what valid texts make of its gates and versions.
 pub fn texts_make_view(
@@ -52,4 +55,13 @@ pub fn texts_make_view(
 {
     let history = a.history();
     let _gates = &history.gates;
+}
+
+/// What is live in a view of an accepted history is read in a later view of it, up to three releases on, with the rows that
+/// it has in the earlier one.
+pub fn later_view_reads_live(back: &View, view: &View)
+    ensures { ReadsLiveOf back.now view.now }
+{
+    let _back = back;
+    let _view = view;
 }

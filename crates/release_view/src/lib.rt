@@ -2,13 +2,17 @@
 #![tactic(auto)]
 
 mod build;
+mod defaults;
 mod known;
 mod law;
 mod order;
 mod release;
 mod served;
 
-pub use build::view;
-pub use law::{tables_determine_view, texts_make_view, view_tells_tables};
-pub use release::{View, versions_spell_alike};
+pub use build::view_at;
+pub use defaults::default_view;
+pub use law::{
+    later_view_reads_live, same_tables_view_alike, tables_determine_view, texts_make_view,
+};
+pub use release::{View, versions_spell_alike, view_finds_each, view_is_kept, view_tells_tables};
 pub use served::ServedVersion;

@@ -14,7 +14,7 @@ returns-in-Some-clause-best c =
     let same : c.as_slice.result.now ≡ versions = c.as_slice.ensures.value ∙ ap (λ v. v.versions) c.self.view_is in
     let test = is_live_of c.args.group.now c.args.resource.now in
     let first : find test versions ≡ Some c.in-Some.version.now = ap (find test) (sym same) ∙ sym c.in-Some.ensures in
-    (c.in-Some.version.now, best_first c.args.group.now c.args.resource.now versions c.in-Some.version.now (subst AreInPlace (ap (λ v. v.versions) c.self.view_is) c.self.invariant.order) first, refl)
+    (c.in-Some.version.now, best_first c.args.group.now c.args.resource.now versions c.in-Some.version.now (subst AreInPlace (ap (λ v. v.versions) c.self.view_is) c.self.invariant.kept.order) first, refl)
 
 pub returns-in-Some-clause-there : goal.returns-in-Some-clause-there
 returns-in-Some-clause-there c =
@@ -33,4 +33,4 @@ returns-in-None-clause-there c =
 pub returns-in-Some-clause-lawful : goal.returns-in-Some-clause-lawful
 returns-in-Some-clause-lawful c =
     let test = is_live_of c.args.group.now c.args.resource.now in
-    lawful_found test c.self.inside.versions.items c.in-Some.version.now c.self.invariant.lawful (ap (find test) (sym c.as_slice.ensures.value) ∙ sym c.in-Some.ensures)
+    lawful_found test c.self.inside.versions.items c.in-Some.version.now c.self.invariant.kept.lawful (ap (find test) (sym c.as_slice.ensures.value) ∙ sym c.in-Some.ensures)

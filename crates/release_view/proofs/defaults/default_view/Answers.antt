@@ -1,0 +1,10 @@
+use Rattle.std.proofs.Common.{◌≡◌, ap, sym, subst, ◌∙◌}
+use Rattle.gate_spec.specs.Gates.{RisesInDate}
+use Rattle.schemas.specs.Dated.{Dated}
+use Rattle.schemas.proofs.LawLemmas.{gates_rise}
+use Rattle.release_view.proofs.defaults.default_view.Goals as goal
+
+pub default_gates-requires : goal.default_gates-requires
+default_gates-requires c =
+    let same : c.items.result.now ≡ c.args.a.now.gates = c.items.ensures ∙ ap (λ (h : Dated). h.gates) (c.history.view_is ∙ c.history-history.ensures.same) in
+    subst RisesInDate (sym same) (gates_rise c.args.a.now c.history-history.ensures.accepted)
