@@ -4,3 +4,4 @@ pub mod ServedLemmas
 pub mod PageLemmas
 pub mod ListedLemmas
 pub mod StableLemmas
+pub mod FloatLemmas

@@ -14,6 +14,7 @@ use Rattle.lifecycle.specs.Stability.{by_stability}
 use Rattle.lifecycle.specs.Version.{IsWord, word_text}
 use Rattle.lifecycle.specs.declared.version.VersionWord.{VersionWord}
 use Rattle.lifecycle.proofs.WordLemmas.{word_text_injective, exact_words}
+use Rattle.release_view.specs.Kept.{IsSpelled}
 use Rattle.release_view.specs.Known.{AreInPlace, by_place}
 use Rattle.release_view.specs.Order.{by_stability_total}
 use Rattle.release_view.specs.Served.{served_of}
@@ -22,10 +23,6 @@ use Rattle.release_view.specs.declared.served.ServedVersion.{ServedVersion}
 use Rattle.discovery.specs.Groups.{is_in, versions_in}
 use Rattle.discovery.specs.Laws.{AreByStability}
 use Rattle.discovery.specs.Resources.{resources_in}
-
-pub record IsSpelled (v : KnownVersion) : Type 0 where
-  pub lawful : IsWord v.word
-  pub text : v.table.version ≡ word_text v.word
 
 abbrev WordsRise : List KnownVersion → Type 0
 WordsRise [] = Unit {0}

@@ -25,7 +25,11 @@ abbrev pub names_in : List ServedVersion → List (List ℕ)
 names_in served = filter (λ group. not (is_core group)) (dedup bytes_eq (map (λ s. s.group) served))
 
 abbrev pub version_tree : List ℕ → List ℕ → Data
-version_tree group version = object (member (codes "groupVersion") (string (group_version group version)) (member (codes "version") (string version) no_members))
+version_tree group version =
+    object
+    (member (codes "groupVersion") (string (group_version group version))
+    (member (codes "version") (string version)
+    no_members))
 
 -- the first version is preferred; a listed group has one
 abbrev pub preferred_tree : List ℕ → List (List ℕ) → Data
@@ -37,13 +41,23 @@ versions_tree group versions = array (items_of (map (version_tree group) version
 
 -- a group in the list
 abbrev pub group_tree : List ℕ → List (List ℕ) → Data
-group_tree group versions = object (member (codes "name") (string group) (member (codes "preferredVersion") (preferred_tree group versions) (member (codes "versions") (versions_tree group versions) no_members)))
+group_tree group versions =
+    object
+    (member (codes "name") (string group)
+    (member (codes "preferredVersion") (preferred_tree group versions)
+    (member (codes "versions") (versions_tree group versions)
+    no_members)))
 
 abbrev pub group_trees : List ServedVersion → List Data
 group_trees served = map (λ group. group_tree group (versions_in served group)) (names_in served)
 
 abbrev pub list_tree : List Data → Data
-list_tree groups = object (member (codes "apiVersion") (string (codes "v1")) (member (codes "groups") (array (items_of groups)) (member (codes "kind") (string (codes "APIGroupList")) no_members)))
+list_tree groups =
+    object
+    (member (codes "apiVersion") (string (codes "v1"))
+    (member (codes "groups") (array (items_of groups))
+    (member (codes "kind") (string (codes "APIGroupList"))
+    no_members)))
 
 -- the list of the groups
 abbrev pub group_list_page : Viewed → Data
@@ -52,8 +66,13 @@ group_list_page view = list_tree (group_trees (served_of view.versions))
 -- a group by itself
 abbrev pub single_tree : List ℕ → List (List ℕ) → Data
 single_tree group versions =
-    object (member (codes "apiVersion") (string (codes "v1")) (member (codes "kind") (string (codes "APIGroup"))
-    (member (codes "name") (string group) (member (codes "preferredVersion") (preferred_tree group versions) (member (codes "versions") (versions_tree group versions) no_members)))))
+    object
+    (member (codes "apiVersion") (string (codes "v1"))
+    (member (codes "kind") (string (codes "APIGroup"))
+    (member (codes "name") (string group)
+    (member (codes "preferredVersion") (preferred_tree group versions)
+    (member (codes "versions") (versions_tree group versions)
+    no_members)))))
 
 -- some version of the group is served
 abbrev pub serves_group : List ServedVersion → List ℕ → Bool
@@ -61,7 +80,10 @@ serves_group served group = list_any (is_in group) served
 
 -- the document of a group, or none for the core group and where nothing of the group is served
 abbrev pub group_among : List ServedVersion → List ℕ → Option Data
-group_among served group = if is_core group || not (serves_group served group) then None else Some (single_tree group (versions_in served group))
+group_among served group =
+    if is_core group || not (serves_group served group)
+    then None
+    else Some (single_tree group (versions_in served group))
 
 abbrev pub group_page : Viewed → List ℕ → Option Data
 group_page view group = group_among (served_of view.versions) group

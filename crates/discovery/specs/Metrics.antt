@@ -10,10 +10,14 @@ value_digit true = codes "1"
 value_digit false = codes "0"
 
 abbrev pub metrics_head : List ℕ
-metrics_head = codes "# HELP kubernetes_feature_enabled Whether a feature gate is on at the emulated version.\n# TYPE kubernetes_feature_enabled gauge\n"
+metrics_head =
+    codes "# HELP kubernetes_feature_enabled Whether a feature gate is on at the emulated version.\n# TYPE kubernetes_feature_enabled gauge\n"
 
 abbrev pub metric_line : GateRow → List ℕ
-metric_line row = codes "kubernetes_feature_enabled{name=\"" ++ (row.name ++ (codes "\",stage=\"" ++ (stage_word row.stage ++ (codes "\"} " ++ (value_digit row.value ++ codes "\n")))))
+metric_line row =
+    codes "kubernetes_feature_enabled{name=\""
+    ++ (row.name ++ (codes "\",stage=\"" ++ (stage_word row.stage
+    ++ (codes "\"} " ++ (value_digit row.value ++ codes "\n")))))
 
 abbrev pub metric_lines : List GateRow → List ℕ
 metric_lines rows = flat_map metric_line rows

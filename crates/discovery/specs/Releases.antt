@@ -4,7 +4,12 @@ use Rattle.serde_json.specs.Data.{Data, string, object, member, no_members}
 use Rattle.minor_version.specs.Release.{release_text}
 
 abbrev pub releases_tree : List ℕ → List ℕ → List ℕ → Data
-releases_tree release emulated minimum = object (member (codes "emulation") (string emulated) (member (codes "minCompatibility") (string minimum) (member (codes "release") (string release) no_members)))
+releases_tree release emulated minimum =
+    object
+    (member (codes "emulation") (string emulated)
+    (member (codes "minCompatibility") (string minimum)
+    (member (codes "release") (string release)
+    no_members)))
 
 -- the binary's release n, the emulated release e and the minimum compatibility m
 abbrev pub releases_page : ℕ → ℕ → ℕ → Data

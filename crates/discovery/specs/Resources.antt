@@ -18,17 +18,28 @@ resources_in served group version = filter (is_of group version) served
 
 -- what can be done with each resource
 abbrev pub verbs_tree : Data
-verbs_tree = array (items_of (map (λ verb. string verb) (codes "create" ∷ codes "delete" ∷ codes "get" ∷ codes "list" ∷ codes "update" ∷ [])))
+verbs_tree =
+    array (items_of (map (λ verb. string verb)
+    (codes "create" ∷ codes "delete" ∷ codes "get" ∷ codes "list" ∷ codes "update" ∷ [])))
 
 abbrev pub resource_tree : ServedVersion → Data
 resource_tree s =
-    object (member (codes "kind") (string s.kind) (member (codes "name") (string s.resource) (member (codes "namespaced") (boolean s.namespaced)
-    (member (codes "singularName") (string s.singular) (member (codes "verbs") verbs_tree no_members)))))
+    object
+    (member (codes "kind") (string s.kind)
+    (member (codes "name") (string s.resource)
+    (member (codes "namespaced") (boolean s.namespaced)
+    (member (codes "singularName") (string s.singular)
+    (member (codes "verbs") verbs_tree
+    no_members)))))
 
 abbrev pub resources_tree : List ℕ → List ℕ → List Data → Data
 resources_tree group version resources =
-    object (member (codes "apiVersion") (string (codes "v1")) (member (codes "groupVersion") (string (group_version group version))
-    (member (codes "kind") (string (codes "APIResourceList")) (member (codes "resources") (array (items_of resources)) no_members))))
+    object
+    (member (codes "apiVersion") (string (codes "v1"))
+    (member (codes "groupVersion") (string (group_version group version))
+    (member (codes "kind") (string (codes "APIResourceList"))
+    (member (codes "resources") (array (items_of resources))
+    no_members))))
 
 -- some resource is served in the version
 abbrev pub serves_version : List ServedVersion → List ℕ → List ℕ → Bool
@@ -36,7 +47,10 @@ serves_version served group version = list_any (is_of group version) served
 
 -- the document of the resources of a version, or none where none is served in it
 abbrev pub resources_among : List ServedVersion → List ℕ → List ℕ → Option Data
-resources_among served group version = if serves_version served group version then Some (resources_tree group version (map resource_tree (resources_in served group version))) else None
+resources_among served group version =
+    if serves_version served group version
+    then Some (resources_tree group version (map resource_tree (resources_in served group version)))
+    else None
 
 abbrev pub resource_list_page : Viewed → List ℕ → List ℕ → Option Data
 resource_list_page view group version = resources_among (served_of view.versions) group version

@@ -29,7 +29,11 @@ fn value_digit(value: bool) -> &'static str
 }
 
 fn line_with(alloc: Global, name: &str, stage: &str, digit: &str) -> Result<String, AllocError>
-    ensures { IfOk result (λ s. string_bytes s ≡ codes "kubernetes_feature_enabled{name=\"" ++ (name.now ++ (codes "\",stage=\"" ++ (stage.now ++ (codes "\"} " ++ (digit.now ++ codes "\n")))))) }
+    ensures { IfOk result (λ s.
+        string_bytes s
+        ≡ codes "kubernetes_feature_enabled{name=\""
+        ++ (name.now ++ (codes "\",stage=\"" ++ (stage.now
+        ++ (codes "\"} " ++ (digit.now ++ codes "\n")))))) }
 {
     format!(in alloc; "kubernetes_feature_enabled{{name=\"{name}\",stage=\"{stage}\"}} {digit}\n")
 }

@@ -1,6 +1,7 @@
 //! The documents of groups.
-ghost use Rattle.std.specs.Prelude.{◌≡◌, ◌++◌, IfOk, find, map, option_map, option_copied};
+ghost use Rattle.std.specs.Prelude.{◌≡◌, ◌++◌, IfOk, IfSome, false, find, map, option_map, option_copied};
 ghost use Rattle.serde_json.specs.View.{view as tree_of};
+ghost use Rattle.serde_json.specs.Written.{has_float};
 ghost use Rattle.discovery.specs.Groups.{is_in, versions_in, version_tree, preferred_tree, group_tree, group_trees, list_tree, single_tree, group_list_page, group_among, group_page};
 ghost use Rattle.discovery.specs.Lasts.{is_last};
 ghost use Rattle.discovery.specs.Order.{GroupsRise, AreIn, IsOfAnother};
@@ -53,7 +54,9 @@ fn version_value(alloc: Global, group: &Text, version: &Text) -> Result<Value, A
 }
 
 fn version_values(alloc: Global, group: &Text, versions: &[&Text]) -> Result<Vec<Value>, AllocError>
-    ensures { IfOk result (λ v. map tree_of v.items ≡ map (version_tree group.now) (map (λ w. w.now) versions.now)) }
+    ensures { IfOk result (λ v.
+        map tree_of v.items
+        ≡ map (version_tree group.now) (map (λ w. w.now) versions.now)) }
 {
     let mut values = Vec::new(alloc);
     for version in versions {
@@ -148,7 +151,8 @@ fn list_value(alloc: Global, groups: Vec<Value>) -> Result<Value, AllocError>
 
 /// The list of the groups with a served version, but the core group.
 pub fn group_list(alloc: Global, view: &View) -> Result<Value, Memory>
-    ensures { IfOk result (λ v. tree_of v ≡ group_list_page view.now) }
+    ensures page { IfOk result (λ v. tree_of v ≡ group_list_page view.now) }
+    ensures no_float { IfOk result (λ v. has_float (tree_of v) ≡ false) }
 {
     let groups = group_values(alloc, view.served())?;
     let value = list_value(alloc, groups)?;
@@ -181,7 +185,8 @@ fn group_among(
 
 /// The document of one group. None where nothing of the group is served, and for the core group.
 pub fn group(alloc: Global, view: &View, name: &[u8]) -> Result<Option<Value>, Memory>
-    ensures { IfOk result (λ o. option_map tree_of o ≡ group_page view.now name.now) }
+    ensures page { IfOk result (λ o. option_map tree_of o ≡ group_page view.now name.now) }
+    ensures no_float { IfOk result (λ o. IfSome o (λ v. has_float (tree_of v) ≡ false)) }
 {
     group_among(alloc, view.served(), name)
 }

@@ -1,5 +1,6 @@
-ghost use Rattle.std.specs.Prelude.{◌≡◌, IfOk};
+ghost use Rattle.std.specs.Prelude.{◌≡◌, IfOk, false};
 ghost use Rattle.serde_json.specs.View.{view as tree_of};
+ghost use Rattle.serde_json.specs.Written.{has_float};
 ghost use Rattle.discovery.specs.Releases.{releases_tree, releases_page};
 
 use basis::Memory;
@@ -20,7 +21,8 @@ fn releases_value(
 
 /// The document of a server's releases: that of its binary, the emulated one, and the minimum compatibility.
 pub fn version_info(alloc: Global, n: Minor, e: Minor, m: Minor) -> Result<Value, Memory>
-    ensures { IfOk result (λ v. tree_of v ≡ releases_page n e m) }
+    ensures page { IfOk result (λ v. tree_of v ≡ releases_page n e m) }
+    ensures no_float { IfOk result (λ v. has_float (tree_of v) ≡ false) }
 {
     let release = n.text(alloc)?;
     let emulated = e.text(alloc)?;

@@ -1,6 +1,7 @@
 //! The document of the resources in a version.
-ghost use Rattle.std.specs.Prelude.{◌≡◌, IfOk, find, map, option_copied, option_map};
+ghost use Rattle.std.specs.Prelude.{◌≡◌, IfOk, IfSome, false, find, map, option_copied, option_map};
 ghost use Rattle.serde_json.specs.View.{view as tree_of};
+ghost use Rattle.serde_json.specs.Written.{has_float};
 ghost use Rattle.discovery.specs.Resources.{is_of, resources_in, resource_tree, resources_tree, resources_among, resource_list_page};
 
 use crate::text::group_version;
@@ -32,7 +33,9 @@ fn resource_values(
     group: &[u8],
     version: &[u8],
 ) -> Result<Vec<Value>, Memory>
-    ensures { IfOk result (λ v. map tree_of v.items ≡ map resource_tree (resources_in served.now group.now version.now)) }
+    ensures { IfOk result (λ v.
+        map tree_of v.items
+        ≡ map resource_tree (resources_in served.now group.now version.now)) }
 {
     let mut values = Vec::new(alloc);
     for resource in served {
@@ -97,7 +100,8 @@ pub fn resource_list(
     group: &[u8],
     version: &[u8],
 ) -> Result<Option<Value>, Memory>
-    ensures { IfOk result (λ o. option_map tree_of o ≡ resource_list_page view.now group.now version.now) }
+    ensures page { IfOk result (λ o. option_map tree_of o ≡ resource_list_page view.now group.now version.now) }
+    ensures no_float { IfOk result (λ o. IfSome o (λ v. has_float (tree_of v) ≡ false)) }
 {
     resources_among(alloc, view.served(), group, version)
 }

@@ -1,16 +1,10 @@
 -- What `convert` is to answer: the object in the version that is asked for, or why there is none.
 use Rattle.std.specs.Prelude.{ℕ, ◌≡◌, ◌≢◌, List, [], ◌∷◌, ◌++◌, codes}
 use Rattle.conversion.specs.Paths.{fault_text}
-use Rattle.flag_text.specs.Pieces.{pieces}
-use Rattle.gate_flags.specs.Values.{AreGateValues}
-use Rattle.gate_spec.specs.Gates.{cutoff as gate_cutoff}
-use Rattle.lifecycle.specs.Entry.{GroupVersionResource}
-use Rattle.lifecycle.specs.Tables.{cutoff}
 use Rattle.object_convert.specs.Convert.{Converts, IsConvertFault}
 use Rattle.object_convert.specs.declared.fault.ConvertFault.{ConvertFault}
 use Rattle.object_convert.specs.declared.fault.ConvertFault.TheVariants as fault
-use Rattle.release_view.specs.Views.{Viewed, IsViewOf}
-use Rattle.runtime_config.specs.Config.{AreServed}
+use Rattle.release_view.specs.Views.{Viewed, IsDefaultView}
 use Rattle.schemas.specs.Dated.{Dated}
 use Rattle.serde_json.specs.Data.{Data}
 use Rattle.serde_json.specs.Written.{compact_text}
@@ -28,13 +22,6 @@ convert_fault_line fault.UnknownTarget = codes "to: unknown version\n"
 convert_fault_line fault.Memory = codes ""
 
 -- ---- answers
-
--- the view of the release with its gates and its served versions as they are by default
-pub record IsDefaultView (h : Dated) (e : ℕ) (view : Viewed) : Type 0 where
-  pub on : List GroupVersionResource
-  pub served : AreServed (cutoff h.apis e) (pieces []) on
-  pub valued : AreGateValues (gate_cutoff h.gates e) (pieces []) view.gates
-  pub viewed : IsViewOf h e view.gates on view
 
 -- the text is that of the object in the version `to` of its resource, in compact JSON, and one line feed
 abbrev pub IsObjectLine : Viewed → List ℕ → List ℕ → List ℕ → Type 0

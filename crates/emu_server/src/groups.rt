@@ -17,7 +17,7 @@ use discovery::group_list;
 use gate_flags::{GateFault, GateValues, gate_values};
 use gate_spec::GateEntry;
 use minor_version::Minor;
-use release_view::{View, texts_make_view, view};
+use release_view::{View, texts_make_view, view_at};
 use runtime_config::{ConfigCause, ConfigFault, Enabled};
 use schemas::Accepted;
 use std::alloc::{AllocError, Global};
@@ -50,7 +50,7 @@ pub fn viewed(
 {
     let gates = default_gates(alloc, accepted.history().gates.items(), e)?;
     texts_make_view(accepted, e, b"", &gates, runtime.as_bytes(), &on);
-    view(alloc, accepted, e, gates, on)
+    view_at(alloc, accepted, e, gates, on)
 }
 
 /// The group list of a release that serves these versions by its runtime configuration, in compact JSON, and one line

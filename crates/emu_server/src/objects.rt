@@ -5,17 +5,15 @@ ghost use Rattle.minor_version.specs.Ranges.{IsEmulable};
 ghost use Rattle.schemas.specs.Rules.{first_of, last_of};
 ghost use Rattle.serde_json.specs.View.{view as tree_of};
 ghost use Rattle.serde_json.specs.Written.{has_float, compact_text};
-ghost use Rattle.emu_server.specs.Conversion.{convert_fault_line, IsDefaultView, IsConversionAt};
+ghost use Rattle.emu_server.specs.Conversion.{convert_fault_line, IsConversionAt};
 
 use crate::answer::Answer;
-use crate::groups::viewed;
 use crate::status::Status;
 use basis::Memory;
 use conversion::{ReadCause, fault_text};
 use minor_version::{Minor, Text};
 use object_convert::{ConvertFault, convert};
-use release_view::View;
-use runtime_config::{ConfigFault, enabled_at};
+use release_view::default_view;
 use schemas::Accepted;
 use serde_json::Value;
 use std::alloc::{AllocError, Global};
@@ -75,19 +73,6 @@ fn shown_object(alloc: Global, json: &Value) -> Result<Answer, Memory>
         status: Status::Ok,
         text,
     })
-}
-
-/// The view of a release with its gates and its served versions as they are by default.
-fn default_view(alloc: Global, accepted: &Accepted, e: Minor) -> Result<View, Memory>
-    requires { IsEmulable (first_of accepted.now) (last_of accepted.now) e }
-    ensures { IfOk result (λ v. IsDefaultView accepted.now e v) }
-{
-    let entries = accepted.history().apis.items();
-    match enabled_at(alloc, entries, e, b"") {
-        Ok(on) => viewed(alloc, accepted, e, "", on),
-        Err(ConfigFault::Memory) => Err(Memory),
-        Err(_) => unreachable!(),
-    }
 }
 
 /// An object in another version of its resource by a release, or why there is none.
