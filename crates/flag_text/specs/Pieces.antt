@@ -26,7 +26,8 @@ pub record FlagPiece : Type 0 where
 -- a piece that is cut at this place
 abbrev pub piece_cut : ℕ → List ℕ → Option ℕ → FlagPiece
 piece_cut place text None = record { place = place; name = trimmed text; value = None }
-piece_cut place text (Some at) = record { place = place; name = trimmed (take at text); value = Some (trimmed (drop (at + 1) text)) }
+piece_cut place text (Some at) =
+    record { place = place; name = trimmed (take at text); value = Some (trimmed (drop (at + 1) text)) }
 
 -- the piece with this place and text, cut at its first `=`
 abbrev pub piece_of : ℕ × List ℕ → FlagPiece

@@ -18,7 +18,9 @@ last_said words ps name = option_and_then (said words) (find (λ p. bytes_eq p.n
 
 -- the map has the boolean of the last piece of each name
 abbrev pub HasSaid : Vocabulary → List FlagPiece → BTreeMap (List ℕ) (Option Bool) → Type 0
-HasSaid words ps booleans = (name : List ℕ) → get (slice_cmp nat_cmp) booleans name ≡ option_map (said words) (find (λ p. bytes_eq p.name name) (last_pieces ps))
+HasSaid words ps booleans =
+    (name : List ℕ) → get (slice_cmp nat_cmp) booleans name ≡
+    option_map (said words) (find (λ p. bytes_eq p.name name) (last_pieces ps))
 
 -- what the map has under the name
 abbrev pub said_in : BTreeMap (List ℕ) (Option Bool) → List ℕ → Option Bool

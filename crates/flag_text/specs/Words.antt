@@ -15,4 +15,6 @@ false_words Plain = codes "false" ∷ []
 
 -- the boolean that the word says
 abbrev pub bool_of : Vocabulary → List ℕ → Option Bool
-bool_of words word = (if list_any (bytes_eq word) (true_words words) then Some true else (if list_any (bytes_eq word) (false_words words) then Some false else None))
+bool_of words word =
+    (if list_any (bytes_eq word) (true_words words) then Some true
+    else (if list_any (bytes_eq word) (false_words words) then Some false else None))

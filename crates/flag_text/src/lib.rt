@@ -3,12 +3,12 @@
 
 mod last;
 mod name;
+mod pass;
 mod piece;
-#[cfg(test)]
-mod tests;
 mod vocabulary;
 
 pub use last::{LastPieces, last_pieces, said, said_in};
 pub use name::Name;
+pub use pass::{PairCause, PairFault, first_pair_fault};
 pub use piece::{Piece, pieces};
 pub use vocabulary::Vocabulary;

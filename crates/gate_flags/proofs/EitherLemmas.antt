@@ -13,17 +13,22 @@ use Rattle.gate_spec.proofs.ThereLemmas.{spec_there}
 use Rattle.flag_text.specs.Pieces.{FlagPiece, pieces, last_pieces}
 use Rattle.flag_text.specs.Said.{said}
 use Rattle.flag_text.specs.declared.vocabulary.Vocabulary.TheVariants.{Go}
-use Rattle.flag_text.proofs.PassLemmas.{stops_or_none}
+use Rattle.flag_text.proofs.PassLemmas.{stops_or_none, pair_or_not}
+use Rattle.flag_text.specs.Passes.{LacksBoolean}
+use Rattle.flag_text.specs.declared.pass.PairCause.{PairCause}
+use Rattle.flag_text.specs.declared.pass.PairCause.TheVariants.{NoValue, NoBoolean}
 use Rattle.gate_flags.specs.Flags.{IsAssignment, IsAllWord, IsAccepted, HasFault, IsRefused}
 use Rattle.gate_flags.specs.Laws.{IsValidOrFaulty}
 use Rattle.gate_flags.specs.declared.fault.GateCause.{GateCause}
 use Rattle.gate_flags.specs.declared.fault.GateCause.TheVariants.{Missing, BadBool, Unknown, PreAlpha, Locked}
 use Rattle.gate_flags.specs.declared.fault.GateFault.TheVariants.{At}
 
-fine_or_not : (p : FlagPiece) (value : Option (List ℕ)) (boolean : Option Bool) → p.value ≡ value → said Go p ≡ boolean → IsAssignment p ⊎ ((c : GateCause) × HasFault p c)
-fine_or_not p value (Some b) is says = inl (ap is_some says)
-fine_or_not p None None is says = inr (Missing, is)
-fine_or_not p (Some word) None is says = inr (BadBool, (ap is_some is, says))
+named : (p : FlagPiece) (c : PairCause) → LacksBoolean Go p c → (d : GateCause) × HasFault p d
+named p NoValue h = (Missing, h)
+named p NoBoolean h = (BadBool, h)
+
+fine_or_not : (p : FlagPiece) → IsAssignment p ⊎ ((c : GateCause) × HasFault p c)
+fine_or_not p = elim (pair_or_not Go p) [ inl fine ↦ inl fine | inr (c, h) ↦ inr (named p c h) ]
 
 is_text : (a b : List ℕ) → (a ≡ b) ⊎ (a ≡ b → ⊥)
 is_text a b = elim (cases_Bool (bytes_eq a b)) [
@@ -66,7 +71,7 @@ accepted_or_not entries e up p = elim (is_all_word p.name) [
 
 pub valid_or_faulty : (entries : List GateEntry) (e : ℕ) (text : List ℕ) → RisesInDate entries → IsValidOrFaulty entries e text
 valid_or_faulty entries e text up =
-    elim (stops_or_none IsAssignment HasFault (pieces text) (λ p. fine_or_not p p.value (said Go p) refl refl)) [
+    elim (stops_or_none IsAssignment HasFault (pieces text) fine_or_not) [
       | inl all ↦ elim (stops_or_none (IsAccepted (cutoff entries e)) (IsRefused entries e) (last_pieces (pieces text)) (accepted_or_not entries e up)) [
         | inl accepted ↦ inl (record { assignments = all; accepted = accepted })
         | inr stop ↦ inr (At stop.0 stop.1, (λ same. cc), inr (all, stop.2))

@@ -5,9 +5,9 @@ use Rattle.gate_spec.specs.declared.entry.GateEntry.{GateEntry}
 use Rattle.gate_spec.specs.declared.entry.SpecAt.TheVariants.{Found, Removed, Never, PreAlpha as ComesLater}
 use Rattle.gate_spec.specs.Gates.{RisesInDate, cutoff}
 use Rattle.gate_spec.proofs.GateLemmas.{spec_at_one}
-use Rattle.flag_text.specs.Words.{bool_of}
 use Rattle.flag_text.specs.declared.vocabulary.Vocabulary.TheVariants.{Go}
-use Rattle.flag_text.proofs.PassLemmas.{first_refutes}
+use Rattle.flag_text.proofs.PassLemmas.{first_refutes, pair_refutes}
+use Rattle.flag_text.specs.declared.pass.PairCause.TheVariants.{NoValue, NoBoolean}
 use Rattle.flag_text.specs.Pieces.{FlagPiece, pieces, last_pieces}
 use Rattle.gate_flags.specs.Flags.{IsAssignment, IsAccepted, IsFeatureText, HasFault, IsRefused, IsSecondPassFault, IsTextFault}
 use Rattle.gate_flags.specs.declared.fault.GateCause.{GateCause}
@@ -15,12 +15,9 @@ use Rattle.gate_flags.specs.declared.fault.GateCause.TheVariants.{Missing, BadBo
 use Rattle.gate_flags.specs.declared.fault.GateFault.{GateFault}
 use Rattle.gate_flags.specs.declared.fault.GateFault.TheVariants.{Memory, At}
 
-no_boolean : (o : Option (List ℕ)) → o ≡ None → is_some (option_and_then (bool_of Go) o) ≡ true → ⊥
-no_boolean o none some = let e : is_some (option_and_then (bool_of Go) None) ≡ true = subst (λ v. is_some (option_and_then (bool_of Go) v) ≡ true) none some in cc
-
 pub fault_refutes : (p : FlagPiece) (c : GateCause) → HasFault p c → IsAssignment p → ⊥
-fault_refutes p Missing h a = no_boolean p.value h a
-fault_refutes p BadBool h a = let e : is_some {T = Bool} None ≡ true = subst (λ o. is_some o ≡ true) h.1 a in cc
+fault_refutes p Missing h a = pair_refutes Go p NoValue h a
+fault_refutes p BadBool h a = pair_refutes Go p NoBoolean h a
 fault_refutes p Unknown h a = h
 fault_refutes p PreAlpha h a = h
 fault_refutes p (Locked d) h a = h

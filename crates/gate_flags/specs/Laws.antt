@@ -23,7 +23,8 @@ HasOneSetOfValues tables text =
 -- two faults of the text, neither of them want of memory, are one, in place and cause
 abbrev pub HasOneFault : List GateEntry → ℕ → List ℕ → Type 0
 HasOneFault entries e text =
-    (f g : GateFault) → f ≢ Memory → g ≢ Memory → IsTextFault entries e text f → IsTextFault entries e text g → f ≡ g
+    (f g : GateFault) → f ≢ Memory → g ≢ Memory →
+    IsTextFault entries e text f → IsTextFault entries e text g → f ≡ g
 
 -- a valid text has no fault, but for want of memory
 abbrev pub IsFaultlessWhereValid : List GateEntry → ℕ → List ℕ → Type 0
@@ -53,10 +54,13 @@ IsSeenAs whole cut = (cut ≡ whole) ⊎ (cut ≡ unforeseen_fault whole)
 
 -- by the cut history the text has the faults that it has by the whole
 pub record HasFaultsOfCut (entries cut : List GateEntry) (e : ℕ) (text : List ℕ) : Type 0 where
-  pub kept : (f : GateFault) → IsTextFault entries e text f → (g : GateFault) × IsSeenAs f g × IsTextFault cut e text g
-  pub from : (g : GateFault) → IsTextFault cut e text g → (f : GateFault) × IsSeenAs f g × IsTextFault entries e text f
+  pub kept : (f : GateFault) → IsTextFault entries e text f →
+      (g : GateFault) × IsSeenAs f g × IsTextFault cut e text g
+  pub from : (g : GateFault) → IsTextFault cut e text g →
+      (f : GateFault) × IsSeenAs f g × IsTextFault entries e text f
 
 -- the same where the history is cut at the release, so that by the cut one no gate comes only later
 abbrev pub HasUnforeseenFaults : List GateEntry → List GateEntry → ℕ → List ℕ → Type 0
 HasUnforeseenFaults entries cut e text =
-    (g : GateFault) → IsTextFault cut e text g ↔ ((f : GateFault) × IsTextFault entries e text f × (g ≡ unforeseen_fault f))
+    (g : GateFault) → IsTextFault cut e text g ↔
+    ((f : GateFault) × IsTextFault entries e text f × (g ≡ unforeseen_fault f))

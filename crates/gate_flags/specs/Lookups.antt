@@ -37,7 +37,14 @@ value_in booleans name stage default = unwrap_or (said_in booleans name) (unwrap
 
 -- the row of a gate, where the release knows it
 abbrev pub row_of : BTreeMap (List ℕ) (Option Bool) → List ℕ → SpecAt → Option GateRow
-row_of booleans name (Found stage default locked) = Some (record { name = name; stage = stage; default = default; locked = locked; value = value_in booleans name stage default })
+row_of booleans name (Found stage default locked) =
+    Some (record {
+      name = name;
+      stage = stage;
+      default = default;
+      locked = locked;
+      value = value_in booleans name stage default;
+    })
 row_of booleans name (Removed value) = None
 row_of booleans name PreAlpha = None
 row_of booleans name Never = None

@@ -38,7 +38,8 @@ pub record Gates : Type 0 where
 pub record AreInOrder (gates : Gates) : Type 0 where
   pub rows : IsStrictlySortedBy (slice_cmp nat_cmp) (map (λ r. r.name) gates.rows)
   pub removed : IsStrictlySortedBy (slice_cmp nat_cmp) (map (λ r. r.name) gates.removed)
-  pub apart : (row : GateRow) (gate : RemovedGate) → Contains gates.rows row → Contains gates.removed gate → row.name ≢ gate.name
+  pub apart : (row : GateRow) (gate : RemovedGate) → Contains gates.rows row →
+      Contains gates.removed gate → row.name ≢ gate.name
 
 -- each gate that the tables know has its row, and each removed gate its value
 pub record AreGateValues (tables : List GateEntry) (ps : List FlagPiece) (gates : Gates) : Type 0 where
@@ -48,4 +49,6 @@ pub record AreGateValues (tables : List GateEntry) (ps : List FlagPiece) (gates 
 
 -- the gate has this value
 abbrev pub HasValue : Gates → List ℕ → Bool → Type 0
-HasValue gates name value = Any (λ r. (r.name ≡ name) × (r.value ≡ value)) gates.rows ⊎ Any (λ r. (r.name ≡ name) × (r.value ≡ value)) gates.removed
+HasValue gates name value =
+    Any (λ r. (r.name ≡ name) × (r.value ≡ value)) gates.rows ⊎
+    Any (λ r. (r.name ≡ name) × (r.value ≡ value)) gates.removed

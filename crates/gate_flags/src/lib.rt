@@ -8,8 +8,6 @@ mod known;
 mod law;
 mod passes;
 mod rows;
-#[cfg(test)]
-mod tests;
 mod values;
 
 pub use fault::{GateCause, GateFault};

@@ -2,6 +2,8 @@
 ghost use Rattle.std.specs.Prelude.{◌≡◌, ◌↔◌, ℕ, List, Bool, IsTrue, IfSome, IfNone, All};
 ghost use Rattle.gate_spec.specs.declared.entry.GateEntry.{GateEntry as TheEntry};
 ghost use Rattle.gate_spec.specs.Gates.{cutoff, IsSpecAt};
+ghost use Rattle.flag_text.specs.Passes.{LacksBoolean};
+ghost use Rattle.flag_text.specs.Pieces.{FlagPiece};
 ghost use Rattle.flag_text.specs.Said.{said};
 ghost use Rattle.flag_text.specs.declared.vocabulary.Vocabulary.TheVariants.{Go};
 ghost use Rattle.gate_flags.specs.Lookups.{KnowsGates};
@@ -9,20 +11,16 @@ ghost use Rattle.gate_flags.specs.Flags.{IsAssignment, IsAllWord, IsAccepted, Ha
 
 use crate::fault::{GateCause, GateFault};
 use crate::known::{Known, spec_in};
-use flag_text::{Name, Piece, Vocabulary, said};
+use flag_text::{Name, PairCause, Piece, Vocabulary, first_pair_fault, said};
 use gate_spec::SpecAt;
 use std::collections::BTreeMap;
 
-fn own_fault(piece: &Piece<'_>) -> Option<GateCause>
-    ensures some { IfSome result (HasFault piece.now) }
-    ensures none { IfNone result (IsAssignment piece.now) }
+fn cause_named(cause: PairCause) -> GateCause
+    ensures { (p : FlagPiece) → LacksBoolean Go p cause → HasFault p result }
 {
-    if piece.value.is_none() {
-        Some(GateCause::Missing)
-    } else if said(Vocabulary::Go, piece).is_none() {
-        Some(GateCause::BadBool)
-    } else {
-        None
+    match cause {
+        PairCause::NoValue => GateCause::Missing,
+        PairCause::NoBoolean => GateCause::BadBool,
     }
 }
 
@@ -31,15 +29,13 @@ pub fn first_fault(pieces: &[Piece<'_>]) -> Option<GateFault>
     ensures some { IfSome result (IsFirstPassFault pieces.now) }
     ensures none { IfNone result (All IsAssignment pieces.now) }
 {
-    for piece in pieces {
-        if let Some(cause) = own_fault(piece) {
-            return Some(GateFault::At {
-                place: piece.place,
-                cause,
-            });
-        }
+    match first_pair_fault(Vocabulary::Go, pieces) {
+        Some(fault) => Some(GateFault::At {
+            place: fault.place,
+            cause: cause_named(fault.cause),
+        }),
+        None => None,
     }
-    None
 }
 
 fn is_all_word(name: &[u8]) -> bool
@@ -59,8 +55,10 @@ fn says(piece: &Piece<'_>, value: bool) -> bool
 
 // Why the release refuses the piece, by what it knows of the gate.
 fn refusal(piece: &Piece<'_>, spec: SpecAt) -> Option<GateCause>
-    ensures some { (entries : List TheEntry) (e : ℕ) → IsSpecAt entries piece.now.name e spec → IfSome result (IsRefused entries e piece.now) }
-    ensures none { (entries : List TheEntry) (e : ℕ) → IsSpecAt entries piece.now.name e spec → IfNone result (IsAccepted (cutoff entries e) piece.now) }
+    ensures some { (entries : List TheEntry) (e : ℕ) → IsSpecAt entries piece.now.name e spec →
+        IfSome result (IsRefused entries e piece.now) }
+    ensures none { (entries : List TheEntry) (e : ℕ) → IsSpecAt entries piece.now.name e spec →
+        IfNone result (IsAccepted (cutoff entries e) piece.now) }
 {
     if is_all_word(piece.name) {
         return None;
@@ -88,8 +86,10 @@ pub fn first_refusal<'a>(
     known: &BTreeMap<Name<'a>, Known<'a>>,
     last: &[Piece<'a>],
 ) -> Option<GateFault>
-    ensures some { (entries : List TheEntry) (e : ℕ) → KnowsGates entries e known.now → IfSome result (IsSecondPassFault entries e last.now) }
-    ensures none { (entries : List TheEntry) (e : ℕ) → KnowsGates entries e known.now → IfNone result (All (IsAccepted (cutoff entries e)) last.now) }
+    ensures some { (entries : List TheEntry) (e : ℕ) → KnowsGates entries e known.now →
+        IfSome result (IsSecondPassFault entries e last.now) }
+    ensures none { (entries : List TheEntry) (e : ℕ) → KnowsGates entries e known.now →
+        IfNone result (All (IsAccepted (cutoff entries e)) last.now) }
 {
     for piece in last {
         if let Some(cause) = refusal(piece, spec_in(known, piece.name)) {

@@ -6,7 +6,7 @@ use Rattle.gate_spec.specs.declared.entry.Stage.{Stage}
 use Rattle.gate_spec.specs.declared.entry.SpecAt.{SpecAt}
 use Rattle.gate_spec.specs.declared.entry.SpecAt.TheVariants.{Found, PreAlpha, Removed, Never}
 
--- the cut history knows of the gate at the release what the whole one knows, but that a gate that the cut drops never comes
+-- the cut history knows of the gate at the release what the whole one knows, but that one which the cut drops never comes
 pub record IsKnownAlike (entries cut : List GateEntry) (name : List ℕ) (e : ℕ) : Type 0 where
   pub found : (stage : Stage) (default locked : Bool) →
       IsSpecAt cut name e (Found stage default locked) ↔ IsSpecAt entries name e (Found stage default locked)
@@ -17,4 +17,5 @@ pub record IsKnownAlike (entries cut : List GateEntry) (name : List ℕ) (e : �
 
 -- a release knows exactly one thing of a gate
 abbrev pub HasOneSpec : List GateEntry → List ℕ → ℕ → Type 0
-HasOneSpec entries name e = (a : SpecAt) × IsSpecAt entries name e a × ((b : SpecAt) → IsSpecAt entries name e b → b ≡ a)
+HasOneSpec entries name e =
+    (a : SpecAt) × IsSpecAt entries name e a × ((b : SpecAt) → IsSpecAt entries name e b → b ≡ a)

@@ -5,8 +5,6 @@ mod entry;
 mod in_force;
 mod law;
 mod stage;
-#[cfg(test)]
-mod tests;
 
 pub use entry::{GateChange, GateEntry, SpecAt, Stage};
 pub use in_force::{rises_in_date, spec_at};

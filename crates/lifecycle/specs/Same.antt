@@ -25,7 +25,8 @@ introduced_as tables name = option_and_then (λ x. introduction_of x.change) (fi
 -- each version is live in both tables or in neither, and decodable in both or in neither, with the same warning, and where
 -- it is either of these introduced in the same way
 pub record AreSameVersions (xs ys : List ApiEntry) : Type 0 where
-  pub live_as : (name : GroupVersionResource) → live xs name ≡ true → introduced_as xs name ≡ introduced_as ys name
+  pub live_as : (name : GroupVersionResource) → live xs name ≡ true →
+      introduced_as xs name ≡ introduced_as ys name
   pub decodable_as : (name : GroupVersionResource) → decodable xs name ≡ true →
       introduced_as xs name ≡ introduced_as ys name
   pub live : (name : GroupVersionResource) → live xs name ≡ live ys name

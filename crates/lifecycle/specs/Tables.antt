@@ -1,5 +1,5 @@
--- What the tables of a release say of a version of a resource. The tables are the dated changes up to the release: no later change and no
--- emulated release occurs in them.
+-- What the tables of a release say of a version of a resource. The tables are the dated changes up to the release: no
+-- later change and no emulated release occurs in them.
 use Rattle.std.specs.Prelude.{◌&&◌, not, ℕ, nat_le, Bool, true, false, List, filter, find, Option, Some, None, is_some, option_and_then, cond}
 use Rattle.std.specs.Str.{bytes_eq}
 use Rattle.lifecycle.specs.Entry.{GroupVersionResource}
@@ -62,9 +62,12 @@ pub record Deprecation : Type 0 where
   pub replacement : List ℕ
 
 abbrev pub deprecation_of : ℕ → ApiChange → Option Deprecation
-deprecation_of since (Deprecated removal replacement) = Some (record { since = since; removal = removal; replacement = replacement })
+deprecation_of since (Deprecated removal replacement) =
+    Some (record { since = since; removal = removal; replacement = replacement })
 deprecation_of since _ = None
 
 -- the warning of a version: its first deprecation in the tables, while it is live
 abbrev pub warning : List ApiEntry → GroupVersionResource → Option Deprecation
-warning tables name = cond (live tables name) (option_and_then (λ x. deprecation_of x.since x.change) (first_change is_deprecation tables name)) None
+warning tables name =
+    cond (live tables name)
+    (option_and_then (λ x. deprecation_of x.since x.change) (first_change is_deprecation tables name)) None

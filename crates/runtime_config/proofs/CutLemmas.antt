@@ -1,15 +1,16 @@
 -- Texts by tables that say the same, and by a history that is cut at a release.
-use Rattle.std.proofs.Common.{◌≡◌, ◌↔◌, ◌⊎◌, ◌&&◌, inl, inr, ℕ, ◌≤◌, Bool, true, false, List, All, Option, Some, None, refl, sym, ◌∙◌, ap, subst}
+use Rattle.std.proofs.Common.{◌≡◌, ◌↔◌, ◌⊎◌, ◌&&◌, inl, inr, ℕ, ◌≤◌, Bool, true, false, arith, List, All, Contains, Option, Some, None, refl, sym, ◌∙◌, ap, subst}
 use Rattle.std.specs.Prelude.{nat_le}
 use Rattle.std.specs.List.{list_any}
 use Rattle.std.specs.Option.{option_map_or, option_and_then}
-use Rattle.std.proofs.lemmas.Bool.{cases_Bool, false≢true, and_parts, and_from, false_from_ne_true}
-use Rattle.std.proofs.lemmas.List.Elements.{All-weaker}
+use Rattle.std.proofs.lemmas.Bool.{cases_Bool, false≢true, and_parts, and_from, false_from_ne_true, leb-true, le-leb}
+use Rattle.std.proofs.lemmas.List.Elements.{All-weaker, All-contains}
 use Rattle.std.proofs.lemmas.List.Folds.{Any-from_list_any, list_any-from_Any}
 use Rattle.basis.proofs.ElementLemmas.{Any-from}
+use Rattle.basis.proofs.FilterLemmas.{Contains-filter, Contains-from_filter, passes_from_filter}
 use Rattle.flag_text.specs.Pieces.{FlagPiece, pieces, last_pieces}
 use Rattle.flag_text.proofs.PassLemmas.{first_with}
-use Rattle.lifecycle.specs.Entry.{GroupVersionResource, subject}
+use Rattle.lifecycle.specs.Entry.{GroupVersionResource, subject, IsIntroduction, IsIntroduced}
 use Rattle.lifecycle.specs.Same.{introduction_of, introduced_as, AreSameVersions}
 use Rattle.lifecycle.specs.Tables.{cutoff, is_introduction, first_change, live}
 use Rattle.lifecycle.specs.declared.entry.ApiEntry.{ApiEntry}
@@ -19,7 +20,7 @@ use Rattle.lifecycle.proofs.CutLemmas.{cut_tables}
 use Rattle.lifecycle.proofs.SameLemmas.{live_is_spoken_of, same_versions_back}
 use Rattle.runtime_config.specs.Config.{IsTakenKey, IsRuntimeText, IsServed, AreServed, IsUnknownKey, IsRemovedKey, IsLaterKey, IsRefused, IsTextFault, names_some, names_introduced, names_live, enables, enabled_by_default}
 use Rattle.runtime_config.specs.Keys.{is_api_key, names}
-use Rattle.runtime_config.specs.Laws.{IsTakenAlike, IsSeenAs, HasFaultsOfCut, unforeseen}
+use Rattle.runtime_config.specs.Laws.{IsTakenAlike, IsSeenAs, HasFaultsOfCut, AreIntroduced, HasUnforeseenFaults, unforeseen, unforeseen_fault}
 use Rattle.runtime_config.specs.declared.fault.ConfigCause.{ConfigCause}
 use Rattle.runtime_config.specs.declared.fault.ConfigCause.TheVariants.{BadPair, BadBool, UnknownApi, AfterEmulated, RemovedApi}
 use Rattle.runtime_config.specs.declared.fault.ConfigFault.{ConfigFault}
@@ -178,3 +179,51 @@ module _ (entries cut : List ApiEntry) (o e : ℕ) (is : cut ≡ cutoff entries 
 
   pub faults_of_cut : (text : List ℕ) → HasFaultsOfCut entries cut e text
   faults_of_cut text = record { kept = fault_kept text; from = fault_from text }
+
+introduction_is : (c : ApiChange) → IsIntroduction c → is_introduction c ≡ true
+introduction_is (Introduced kind singular namespaced enabled) h = refl
+introduction_is (Deprecated removal replacement) h = absurd h
+introduction_is Removed h = absurd h
+introduction_is Forgotten h = absurd h
+
+module _ (entries cut : List ApiEntry) (o : ℕ) (is : cut ≡ cutoff entries o) (led : AreIntroduced entries) where
+  abbrev whole : o ≤ o
+  whole = omega arith
+
+  -- what the cut history speaks of, it introduces
+  introduced_there : (key : List ℕ) → names_some key cut ≡ true → names_introduced key (cutoff cut o) ≡ true
+  introduced_there key some =
+      let x = Any-from_list_any (λ x. names key (subject x)) (cutoff entries o) (ap (names_some key) (sym is) ∙ some) in
+      let among : Contains (cutoff entries o) x.1 = (x.0, x.2, x.3) in
+      let dated : x.1.since ≤ o = leb-true x.1.since o (passes_from_filter (λ y. nat_le y.since o) entries x.1 among) in
+      let y = All-contains (λ z. IsIntroduced entries (subject z) z.since) entries x.1 led (Contains-from_filter (λ z. nat_le z.since o) entries x.1 among) in
+      let early : y.1.since ≤ x.1.since = y.4.0.dated in
+      let kept : Contains (cutoff entries o) y.1 = Contains-filter (λ z. nat_le z.since o) entries y.1 (y.0, y.2, y.3) (le-leb y.1.since o (omega arith)) in
+      let same : subject y.1 ≡ subject x.1 = λ i. record { group = y.4.0.group i; version = y.4.0.version i; resource = y.4.0.resource i } in
+      ap (names_introduced key) (sym (cut_tables entries cut o o is whole))
+      ∙ list_any-from_Any (λ z. names key (subject z) && is_introduction z.change) (cutoff entries o)
+      (Any-from (λ z. (names key (subject z) && is_introduction z.change) ≡ true) (cutoff entries o) y.1 kept
+      (and_from (names key (subject y.1)) (is_introduction y.1.change) (ap (names key) same ∙ x.4) (introduction_is y.1.change y.4.1)))
+
+  foreseen : (text : List ℕ) (g : ConfigFault) → IsTextFault cut o text g → unforeseen_fault g ≡ g
+  foreseen text Memory h = refl
+  foreseen text OnlyAllFalse h = refl
+  foreseen text (At place BadPair) h = refl
+  foreseen text (At place BadBool) h = refl
+  foreseen text (At place UnknownApi) h = refl
+  foreseen text (At place RemovedApi) h = refl
+  foreseen text (At place AfterEmulated) (inl h) = absurd h.first.faulty
+  foreseen text (At place AfterEmulated) (inr h) =
+      let later = h.1.first.faulty in
+      absurd (false≢true (sym later.none_introduced ∙ introduced_there h.1.piece.name later.something))
+
+  pub unforeseen_faults : (text : List ℕ) → HasUnforeseenFaults entries cut o text
+  unforeseen_faults text g = (
+    λ h.
+        let whole_fault = (faults_of_cut entries cut o o is whole text).from g h in
+        (whole_fault.0, whole_fault.2, elim whole_fault.1 [ inl same ↦ sym (foreseen text g h) ∙ ap unforeseen_fault same | inr seen ↦ seen ]),
+    λ h.
+        let kept = (faults_of_cut entries cut o o is whole text).kept h.0 h.1 in
+        let same : kept.0 ≡ g = elim kept.1 [ inl same ↦ sym (foreseen text kept.0 kept.2) ∙ ap unforeseen_fault same ∙ sym h.2 | inr seen ↦ seen ∙ sym h.2 ] in
+        subst (IsTextFault cut o text) same kept.2,
+  )

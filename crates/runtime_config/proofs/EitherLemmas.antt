@@ -7,7 +7,10 @@ use Rattle.std.proofs.lemmas.Slice.Eq.{bytes_eq-Decides}
 use Rattle.flag_text.specs.Pieces.{FlagPiece, pieces, last_pieces}
 use Rattle.flag_text.specs.Said.{said}
 use Rattle.flag_text.specs.declared.vocabulary.Vocabulary.TheVariants.{Plain}
-use Rattle.flag_text.proofs.PassLemmas.{stops_or_none}
+use Rattle.flag_text.proofs.PassLemmas.{stops_or_none, pair_or_not}
+use Rattle.flag_text.specs.Passes.{LacksBoolean}
+use Rattle.flag_text.specs.declared.pass.PairCause.{PairCause}
+use Rattle.flag_text.specs.declared.pass.PairCause.TheVariants.{NoValue, NoBoolean}
 use Rattle.lifecycle.specs.Tables.{cutoff}
 use Rattle.lifecycle.specs.declared.entry.ApiEntry.{ApiEntry}
 use Rattle.runtime_config.specs.Config.{IsPair, IsTakenKey, IsOnlyAllFalse, HasFault, IsRefused, names_some, names_introduced, names_live}
@@ -17,10 +20,12 @@ use Rattle.runtime_config.specs.declared.fault.ConfigCause.{ConfigCause}
 use Rattle.runtime_config.specs.declared.fault.ConfigCause.TheVariants.{BadPair, BadBool, UnknownApi, AfterEmulated, RemovedApi}
 use Rattle.runtime_config.specs.declared.fault.ConfigFault.TheVariants.{At, OnlyAllFalse}
 
-fine_or_not : (p : FlagPiece) (value : Option (List ℕ)) (boolean : Option Bool) → p.value ≡ value → said Plain p ≡ boolean → IsPair p ⊎ ((c : ConfigCause) × HasFault p c)
-fine_or_not p value (Some b) is says = inl (ap is_some says)
-fine_or_not p None None is says = inr (BadPair, is)
-fine_or_not p (Some word) None is says = inr (BadBool, (ap is_some is, says))
+named : (p : FlagPiece) (c : PairCause) → LacksBoolean Plain p c → (d : ConfigCause) × HasFault p d
+named p NoValue h = (BadPair, h)
+named p NoBoolean h = (BadBool, h)
+
+fine_or_not : (p : FlagPiece) → IsPair p ⊎ ((c : ConfigCause) × HasFault p c)
+fine_or_not p = elim (pair_or_not Plain p) [ inl fine ↦ inl fine | inr (c, h) ↦ inr (named p c h) ]
 
 taken_or_not : (entries : List ApiEntry) (e : ℕ) (p : FlagPiece) → IsTakenKey (cutoff entries e) p.name ⊎ ((c : ConfigCause) × IsRefused entries e p c)
 taken_or_not entries e p = elim (cases_Bool (is_api_key p.name)) [
@@ -62,7 +67,7 @@ only_one ps (p ∷ []) is = elim (cases_Bool (bytes_eq p.name all_key)) [
 
 pub valid_or_faulty : (entries : List ApiEntry) (e : ℕ) (text : List ℕ) → IsValidOrFaulty entries e text
 valid_or_faulty entries e text =
-    elim (stops_or_none IsPair HasFault (pieces text) (λ p. fine_or_not p p.value (said Plain p) refl refl)) [
+    elim (stops_or_none IsPair HasFault (pieces text) fine_or_not) [
       | inl all ↦ elim (stops_or_none (λ p. IsTakenKey (cutoff entries e) p.name) (IsRefused entries e) (last_pieces (pieces text)) (taken_or_not entries e)) [
         | inl taken ↦ elim (only_one (pieces text) (last_pieces (pieces text)) refl) [
           | inl only ↦ inr (OnlyAllFalse, (λ same. cc), record { pairs = all; only = only })

@@ -4,10 +4,10 @@ use Rattle.std.specs.Prelude.{nat_le, IfSome, IfNone}
 use Rattle.std.specs.List.{list_any}
 use Rattle.std.specs.Option.{is_some, option_and_then}
 use Rattle.std.proofs.lemmas.Bool.{cases_Bool, false≢true, and_parts, or_cases, or_left, or_right}
-use Rattle.flag_text.specs.Words.{bool_of}
 use Rattle.flag_text.specs.Pieces.{FlagPiece, pieces, last_pieces}
 use Rattle.flag_text.specs.declared.vocabulary.Vocabulary.TheVariants.{Plain}
-use Rattle.flag_text.proofs.PassLemmas.{first_refutes}
+use Rattle.flag_text.proofs.PassLemmas.{first_refutes, pair_refutes}
+use Rattle.flag_text.specs.declared.pass.PairCause.TheVariants.{NoValue, NoBoolean}
 use Rattle.lifecycle.specs.Entry.{subject}
 use Rattle.lifecycle.specs.Tables.{cutoff, is_introduction, live}
 use Rattle.lifecycle.specs.declared.entry.ApiEntry.{ApiEntry}
@@ -115,12 +115,9 @@ introduced_is_named entries e key h =
     any_weaker (λ x. nat_le x.since e && (names key (subject x) && is_introduction x.change)) (λ x. names key (subject x)) entries
     (λ x both. (and_parts (names key (subject x)) (is_introduction x.change) (and_parts (nat_le x.since e) (names key (subject x) && is_introduction x.change) both).1).0) (sym (introduced_is entries e key) ∙ h)
 
-no_boolean : (o : Option (List ℕ)) → o ≡ None → is_some (option_and_then (bool_of Plain) o) ≡ true → ⊥
-no_boolean o none some = let e : is_some (option_and_then (bool_of Plain) None) ≡ true = subst (λ v. is_some (option_and_then (bool_of Plain) v) ≡ true) none some in cc
-
 pub fault_refutes : (p : FlagPiece) (c : ConfigCause) → HasFault p c → IsPair p → ⊥
-fault_refutes p BadPair h a = no_boolean p.value h a
-fault_refutes p BadBool h a = let e : is_some {T = Bool} None ≡ true = subst (λ o. is_some o ≡ true) h.1 a in cc
+fault_refutes p BadPair h a = pair_refutes Plain p NoValue h a
+fault_refutes p BadBool h a = pair_refutes Plain p NoBoolean h a
 fault_refutes p UnknownApi h a = h
 fault_refutes p AfterEmulated h a = h
 fault_refutes p RemovedApi h a = h

@@ -4,7 +4,8 @@ use Rattle.std.specs.List.{list_any}
 use Rattle.std.specs.Option.{option_map_or}
 use Rattle.flag_text.specs.Pieces.{FlagPiece, pieces, last_pieces}
 use Rattle.flag_text.specs.Said.{said, last_said}
-use Rattle.flag_text.specs.Passes.{StopsAt}
+use Rattle.flag_text.specs.Passes.{StopsAt, HasBoolean, LacksBoolean}
+use Rattle.flag_text.specs.declared.pass.PairCause.TheVariants.{NoValue, NoBoolean}
 use Rattle.flag_text.specs.declared.vocabulary.Vocabulary.TheVariants.{Plain}
 use Rattle.lifecycle.specs.Entry.{GroupVersionResource, subject}
 use Rattle.lifecycle.specs.Tables.{cutoff, is_introduction, first_change, live}
@@ -22,7 +23,7 @@ use Rattle.runtime_config.specs.declared.fault.ConfigFault.TheVariants.{Memory, 
 
 -- the piece has a `=`, and `true` or `false` behind it
 abbrev pub IsPair : FlagPiece → Type 0
-IsPair p = IsSome (said Plain p)
+IsPair = HasBoolean Plain
 
 -- the entries speak of a version that the key names
 abbrev pub names_some : List ℕ → List ApiEntry → Bool
@@ -42,7 +43,8 @@ IsTakenKey tables key = (is_api_key key ≡ true) ⊎ (names_live key tables ≡
 
 -- `api/all=false` is all that is left
 abbrev pub IsOnlyAllFalse : List FlagPiece → Type 0
-IsOnlyAllFalse ps = (p : FlagPiece) × (last_pieces ps ≡ p ∷ []) × (p.name ≡ all_key) × (said Plain p ≡ Some false)
+IsOnlyAllFalse ps =
+    (p : FlagPiece) × (last_pieces ps ≡ p ∷ []) × (p.name ≡ all_key) × (said Plain p ≡ Some false)
 
 -- the text is valid in the tables
 pub record IsRuntimeText (tables : List ApiEntry) (text : List ℕ) : Type 0 where
@@ -52,11 +54,12 @@ pub record IsRuntimeText (tables : List ApiEntry) (text : List ℕ) : Type 0 whe
 
 -- the fault of a piece by itself
 abbrev pub HasFault : FlagPiece → ConfigCause → Type 0
-HasFault p BadPair = p.value ≡ None
-HasFault p BadBool = IsSome p.value × (said Plain p ≡ None)
+HasFault p BadPair = LacksBoolean Plain p NoValue
+HasFault p BadBool = LacksBoolean Plain p NoBoolean
 HasFault p _ = ⊥
 
--- why a key isn't taken: it names no entry of the history; or no live version, but one that was introduced; or only later ones
+-- why a key isn't taken: it names no entry of the history; or no live version, but one that was introduced; or only
+-- later ones
 pub record IsUnknownKey (entries : List ApiEntry) (key : List ℕ) : Type 0 where
   pub no_api_key : is_api_key key ≡ false
   pub nothing : names_some key entries ≡ false
@@ -87,7 +90,8 @@ IsFirstPassFault ps Memory = ⊥
 
 -- the second pass: over the last piece of each key, by the history and the release
 abbrev pub IsSecondPassFault : List ApiEntry → ℕ → List FlagPiece → ConfigFault → Type 0
-IsSecondPassFault entries e last (At place cause) = StopsAt (λ p. IsTakenKey (cutoff entries e) p.name) (λ p. IsRefused entries e p cause) last place
+IsSecondPassFault entries e last (At place cause) =
+    StopsAt (λ p. IsTakenKey (cutoff entries e) p.name) (λ p. IsRefused entries e p cause) last place
 IsSecondPassFault entries e last OnlyAllFalse = ⊥
 IsSecondPassFault entries e last Memory = ⊥
 
@@ -98,7 +102,9 @@ pub record IsAllOff (text : List ℕ) : Type 0 where
 
 -- the fault of a text; want of memory is free
 abbrev pub IsTextFault : List ApiEntry → ℕ → List ℕ → ConfigFault → Type 0
-IsTextFault entries e text (At place cause) = IsFirstPassFault (pieces text) (At place cause) ⊎ (All IsPair (pieces text) × IsSecondPassFault entries e (last_pieces (pieces text)) (At place cause))
+IsTextFault entries e text (At place cause) =
+    IsFirstPassFault (pieces text) (At place cause) ⊎
+    (All IsPair (pieces text) × IsSecondPassFault entries e (last_pieces (pieces text)) (At place cause))
 IsTextFault entries e text OnlyAllFalse = IsAllOff text
 IsTextFault entries e text Memory = Unit {0}
 
@@ -115,7 +121,9 @@ level_said ps (Some w) = last_said Plain ps (level_key w.level)
 -- the most specific given key decides: that of the resource, of the version, of its level, of all; else the introduction
 abbrev pub switched : List FlagPiece → GroupVersionResource → Option VersionWord → Bool → Bool
 switched ps name w enabled =
-    unwrap_or (last_said Plain ps (resource_key name)) (unwrap_or (last_said Plain ps (version_key name)) (unwrap_or (level_said ps w) (unwrap_or (last_said Plain ps all_key) enabled)))
+    unwrap_or (last_said Plain ps (resource_key name))
+    (unwrap_or (last_said Plain ps (version_key name))
+    (unwrap_or (level_said ps w) (unwrap_or (last_said Plain ps all_key) enabled)))
 
 abbrev pub enables : ApiChange → Bool
 enables (Introduced kind singular namespaced enabled) = enabled

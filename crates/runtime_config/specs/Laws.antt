@@ -1,7 +1,7 @@
 -- What follows from the definitions of runtime configurations.
-use Rattle.std.specs.Prelude.{◌≡◌, ◌≢◌, ◌↔◌, ◌⊎◌, ℕ, List}
+use Rattle.std.specs.Prelude.{◌≡◌, ◌≢◌, ◌↔◌, ◌⊎◌, ℕ, List, All}
 use Rattle.flag_text.specs.Pieces.{pieces}
-use Rattle.lifecycle.specs.Entry.{GroupVersionResource}
+use Rattle.lifecycle.specs.Entry.{GroupVersionResource, subject, IsIntroduced}
 use Rattle.lifecycle.specs.Tables.{cutoff}
 use Rattle.lifecycle.specs.declared.entry.ApiEntry.{ApiEntry}
 use Rattle.runtime_config.specs.Config.{IsRuntimeText, IsTextFault, AreServed}
@@ -25,7 +25,8 @@ HasOneServedSet entries e text =
 -- two faults of the text, neither of them want of memory, are one, in place and cause
 abbrev pub HasOneFault : List ApiEntry → ℕ → List ℕ → Type 0
 HasOneFault entries e text =
-    (f g : ConfigFault) → f ≢ Memory → g ≢ Memory → IsTextFault entries e text f → IsTextFault entries e text g → f ≡ g
+    (f g : ConfigFault) → f ≢ Memory → g ≢ Memory →
+    IsTextFault entries e text f → IsTextFault entries e text g → f ≡ g
 
 -- a valid text has no fault, but for want of memory
 abbrev pub IsFaultlessWhereValid : List ApiEntry → ℕ → List ℕ → Type 0
@@ -60,3 +61,13 @@ pub record HasFaultsOfCut (entries cut : List ApiEntry) (e : ℕ) (text : List �
       (g : ConfigFault) × IsSeenAs f g × IsTextFault cut e text g
   pub from : (g : ConfigFault) → IsTextFault cut e text g →
       (f : ConfigFault) × IsSeenAs f g × IsTextFault entries e text f
+
+-- each change of a version is dated at or after an introduction of it
+abbrev pub AreIntroduced : List ApiEntry → Type 0
+AreIntroduced entries = All (λ x. IsIntroduced entries (subject x) x.since) entries
+
+-- the same where the history is cut at the release, so that by the cut one no key names only later versions
+abbrev pub HasUnforeseenFaults : List ApiEntry → List ApiEntry → ℕ → List ℕ → Type 0
+HasUnforeseenFaults entries cut e text =
+    (g : ConfigFault) → IsTextFault cut e text g ↔
+    ((f : ConfigFault) × IsTextFault entries e text f × (g ≡ unforeseen_fault f))

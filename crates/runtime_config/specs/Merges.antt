@@ -24,13 +24,19 @@ merged (Some s) own = better s own
 
 -- what the entry says of its version
 abbrev pub own_standing : List ApiEntry → ℕ → ApiEntry → Standing
-own_standing tables e x = (if nat_le x.since e then (if live tables (subject x) then Live else (if is_introduction x.change then Gone else Later)) else Later)
+own_standing tables e x =
+    (if nat_le x.since e then
+    (if live tables (subject x) then Live else (if is_introduction x.change then Gone else Later)) else Later)
 
 -- the standing of this key is raised, and nothing else changes
 abbrev pub Raises : BTreeMap (List ℕ) Standing → BTreeMap (List ℕ) Standing → List ℕ → Standing → Type 0
-Raises m n key own = (q : List ℕ) → get (slice_cmp nat_cmp) n q ≡ cond (bytes_eq q key) (Some (merged (get (slice_cmp nat_cmp) m q) own)) (get (slice_cmp nat_cmp) m q)
+Raises m n key own =
+    (q : List ℕ) → get (slice_cmp nat_cmp) n q ≡
+    cond (bytes_eq q key) (Some (merged (get (slice_cmp nat_cmp) m q) own)) (get (slice_cmp nat_cmp) m q)
 
 -- the same for the two keys of the row
 abbrev pub TakesIn : BTreeMap (List ℕ) Standing → BTreeMap (List ℕ) Standing → Row → Standing → Type 0
 TakesIn m n row own =
-    (q : List ℕ) → get (slice_cmp nat_cmp) n q ≡ cond (bytes_eq q (string_bytes row.version) || bytes_eq q (string_bytes row.resource)) (Some (merged (get (slice_cmp nat_cmp) m q) own)) (get (slice_cmp nat_cmp) m q)
+    (q : List ℕ) → get (slice_cmp nat_cmp) n q ≡
+    cond (bytes_eq q (string_bytes row.version) || bytes_eq q (string_bytes row.resource))
+    (Some (merged (get (slice_cmp nat_cmp) m q) own)) (get (slice_cmp nat_cmp) m q)

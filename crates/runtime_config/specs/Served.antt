@@ -17,7 +17,8 @@ is_same_name a b = bytes_eq a.group b.group && bytes_eq a.version b.version && b
 
 -- by group, then version, then resource, each in order of bytes
 abbrev pub by_name : GroupVersionResource → GroupVersionResource → Ordering
-by_name = then_cmp (then_cmp (on (λ n. n.group) (slice_cmp nat_cmp)) (on (λ n. n.version) (slice_cmp nat_cmp))) (on (λ n. n.resource) (slice_cmp nat_cmp))
+by_name =
+    then_cmp (then_cmp (on (λ n. n.group) (slice_cmp nat_cmp)) (on (λ n. n.version) (slice_cmp nat_cmp))) (on (λ n. n.resource) (slice_cmp nat_cmp))
 
 -- the names are in order, and none stands twice
 abbrev pub AreInOrder : List GroupVersionResource → Type 0

@@ -19,11 +19,14 @@ level_in m (Some w) = said_in m (level_key w.level)
 
 -- the most specific key that the map has decides
 abbrev pub switched_in : Booleans → List ℕ → List ℕ → Option VersionWord → Bool → Bool
-switched_in m resource version w enabled = unwrap_or (said_in m resource) (unwrap_or (said_in m version) (unwrap_or (level_in m w) (unwrap_or (said_in m all_key) enabled)))
+switched_in m resource version w enabled =
+    unwrap_or (said_in m resource)
+    (unwrap_or (said_in m version) (unwrap_or (level_in m w) (unwrap_or (said_in m all_key) enabled)))
 
 -- the version with this text is switched so
 abbrev pub IsSwitched : Booleans → List ℕ → List ℕ → List ℕ → Bool → Bool → Type 0
-IsSwitched m text resource version enabled on = (w : Option VersionWord) × HasWord text w × (on ≡ switched_in m resource version w enabled)
+IsSwitched m text resource version enabled on =
+    (w : Option VersionWord) × HasWord text w × (on ≡ switched_in m resource version w enabled)
 
 -- the version is live, and switched on by the map
 pub record IsOnIn (tables : List ApiEntry) (m : Booleans) (name : GroupVersionResource) : Type 0 where
@@ -35,4 +38,5 @@ pub record IsOnIn (tables : List ApiEntry) (m : Booleans) (name : GroupVersionRe
 -- the names of the versions of these entries that are on, in order of bytes
 pub record AreNamesOn (tables : List ApiEntry) (m : Booleans) (entries : List ApiEntry) (names : List GroupVersionResource) : Type 0 where
   pub order : AreInOrder names
-  pub exact : (name : GroupVersionResource) → Contains names name ↔ Any (λ x. (subject x ≡ name) × IsOnIn tables m name) entries
+  pub exact : (name : GroupVersionResource) → Contains names name ↔
+      Any (λ x. (subject x ≡ name) × IsOnIn tables m name) entries

@@ -1,7 +1,7 @@
 ghost use Rattle.std.specs.Prelude.{◌≡◌, ◌≤◌, ℕ};
 ghost use Rattle.lifecycle.specs.Same.{AreSameVersions};
 ghost use Rattle.lifecycle.specs.Tables.{cutoff};
-ghost use Rattle.runtime_config.specs.Laws.{IsTakenAlike, HasFaultsOfCut, HasOneServedSet, HasOneFault, IsFaultlessWhereValid, IsValidOrFaulty};
+ghost use Rattle.runtime_config.specs.Laws.{IsTakenAlike, HasFaultsOfCut, AreIntroduced, HasUnforeseenFaults, HasOneServedSet, HasOneFault, IsFaultlessWhereValid, IsValidOrFaulty};
 
 use lifecycle::ApiEntry;
 use minor_version::Minor;
@@ -19,8 +19,9 @@ pub fn emulation_of_config(entries: &[ApiEntry], cut: &[ApiEntry], o: Minor, tex
     requires { cut.now ≡ cutoff entries.now o }
     ensures taken { (e : ℕ) → e ≤ o → IsTakenAlike (cutoff entries.now e) (cutoff cut.now e) text.now }
 
-    // A key that names only later versions may be one that names nothing.
+    // A key that names only later versions may be one that names nothing, and at the cut is one.
     ensures faults { (e : ℕ) → e ≤ o → HasFaultsOfCut entries.now cut.now e text.now }
+    ensures at_cut { AreIntroduced entries.now → HasUnforeseenFaults entries.now cut.now o text.now }
 {}
 
 /// A text has one answer at the release e: it is valid, with one list of what it leaves served and no fault, or it isn't,

@@ -9,8 +9,6 @@ mod law;
 mod passes;
 mod served;
 mod standing;
-#[cfg(test)]
-mod tests;
 
 pub use config::enabled_at;
 pub use enabled::Enabled;

@@ -1,6 +1,7 @@
 //! The two passes over the pieces of a text.
 ghost use Rattle.std.specs.Prelude.{◌≡◌, ◌↔◌, IsTrue, IfSome, IfNone, All, List, [], ◌∷◌, ℕ, Option, Some, false};
 ghost use Rattle.flag_text.specs.Pieces.{FlagPiece};
+ghost use Rattle.flag_text.specs.Passes.{LacksBoolean};
 ghost use Rattle.flag_text.specs.Said.{said};
 ghost use Rattle.flag_text.specs.declared.vocabulary.Vocabulary.TheVariants.{Plain};
 ghost use Rattle.lifecycle.specs.declared.entry.ApiEntry.{ApiEntry as TheEntry};
@@ -12,18 +13,14 @@ ghost use Rattle.runtime_config.specs.Standings.{standing, standing_cause, cause
 use crate::fault::{ConfigCause, ConfigFault};
 use crate::keys::{ALL, is_api_key};
 use crate::standing::{Standing, Standings, standing_in};
-use flag_text::{Piece, Vocabulary, said};
+use flag_text::{PairCause, Piece, Vocabulary, first_pair_fault, said};
 
-fn own_fault(piece: &Piece<'_>) -> Option<ConfigCause>
-    ensures some { IfSome result (HasFault piece.now) }
-    ensures none { IfNone result (IsPair piece.now) }
+fn cause_named(cause: PairCause) -> ConfigCause
+    ensures { (p : FlagPiece) → LacksBoolean Plain p cause → HasFault p result }
 {
-    if piece.value.is_none() {
-        Some(ConfigCause::BadPair)
-    } else if said(Vocabulary::Plain, piece).is_none() {
-        Some(ConfigCause::BadBool)
-    } else {
-        None
+    match cause {
+        PairCause::NoValue => ConfigCause::BadPair,
+        PairCause::NoBoolean => ConfigCause::BadBool,
     }
 }
 
@@ -32,15 +29,13 @@ pub fn first_fault(pieces: &[Piece<'_>]) -> Option<ConfigFault>
     ensures some { IfSome result (IsFirstPassFault pieces.now) }
     ensures none { IfNone result (All IsPair pieces.now) }
 {
-    for piece in pieces {
-        if let Some(cause) = own_fault(piece) {
-            return Some(ConfigFault::At {
-                place: piece.place,
-                cause,
-            });
-        }
+    match first_pair_fault(Vocabulary::Plain, pieces) {
+        Some(fault) => Some(ConfigFault::At {
+            place: fault.place,
+            cause: cause_named(fault.cause),
+        }),
+        None => None,
     }
-    None
 }
 
 fn standing_cause(standing: Standing) -> Option<ConfigCause>
@@ -65,8 +60,10 @@ fn cause_of(found: Option<Standing>) -> Option<ConfigCause>
 
 // Why the release refuses the piece, by the standing of its key.
 fn refusal(piece: &Piece<'_>, found: Option<Standing>) -> Option<ConfigCause>
-    ensures some { (entries : List TheEntry) (e : ℕ) → found ≡ standing (cutoff entries e) e entries piece.now.name → IfSome result (IsRefused entries e piece.now) }
-    ensures none { (entries : List TheEntry) (e : ℕ) → found ≡ standing (cutoff entries e) e entries piece.now.name → IfNone result (IsTakenKey (cutoff entries e) piece.now.name) }
+    ensures some { (entries : List TheEntry) (e : ℕ) → found ≡ standing (cutoff entries e) e entries piece.now.name →
+        IfSome result (IsRefused entries e piece.now) }
+    ensures none { (entries : List TheEntry) (e : ℕ) → found ≡ standing (cutoff entries e) e entries piece.now.name →
+        IfNone result (IsTakenKey (cutoff entries e) piece.now.name) }
 {
     if is_api_key(piece.name) {
         None
@@ -77,8 +74,10 @@ fn refusal(piece: &Piece<'_>, found: Option<Standing>) -> Option<ConfigCause>
 
 /// The first of the last pieces that the release refuses.
 pub fn first_refusal<'a>(known: &Standings<'a>, last: &[Piece<'a>]) -> Option<ConfigFault>
-    ensures some { (entries : List TheEntry) (e : ℕ) → HasStandings (cutoff entries e) e entries known.now → IfSome result (IsSecondPassFault entries e last.now) }
-    ensures none { (entries : List TheEntry) (e : ℕ) → HasStandings (cutoff entries e) e entries known.now → IfNone result (All (λ p. IsTakenKey (cutoff entries e) p.name) last.now) }
+    ensures some { (entries : List TheEntry) (e : ℕ) → HasStandings (cutoff entries e) e entries known.now →
+        IfSome result (IsSecondPassFault entries e last.now) }
+    ensures none { (entries : List TheEntry) (e : ℕ) → HasStandings (cutoff entries e) e entries known.now →
+        IfNone result (All (λ p. IsTakenKey (cutoff entries e) p.name) last.now) }
 {
     for piece in last {
         if let Some(cause) = refusal(piece, standing_in(known, piece.name)) {

@@ -98,10 +98,7 @@ pub fn standings<'k, 'a>(
 {
     let mut known: Standings<'k> = BTreeMap::new(alloc);
     for row in rows {
-        match take_in(&mut known, row, own_standing(index, row.entry, e)) {
-            Ok(()) => {}
-            Err(Memory) => return Err(Memory),
-        }
+        take_in(&mut known, row, own_standing(index, row.entry, e))?;
     }
     Ok(known)
 }

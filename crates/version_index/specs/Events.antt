@@ -22,4 +22,6 @@ ChangeMap = BTreeMap (Bor (List ℕ) × Bor (List ℕ) × Bor (List ℕ)) (Bor A
 
 -- the map has of each version the first such change in the tables
 abbrev pub HasFirstChanges : Event → List ApiEntry → ChangeMap → Type 0
-HasFirstChanges event tables m = (name : GroupVersionResource) → option_map (λ x. x.now) (value_at m name.group name.version name.resource) ≡ first_change (is_event event) tables name
+HasFirstChanges event tables m =
+    (name : GroupVersionResource) →
+    option_map (λ x. x.now) (value_at m name.group name.version name.resource) ≡ first_change (is_event event) tables name

@@ -10,26 +10,28 @@ use Rattle.gate_flags.specs.Laws.{HasOneFault, IsFaultlessWhereValid}
 use Rattle.gate_flags.specs.declared.fault.GateCause.{GateCause}
 use Rattle.gate_flags.specs.declared.fault.GateCause.TheVariants.{Missing, BadBool, Unknown, PreAlpha, Locked}
 use Rattle.gate_flags.specs.declared.fault.GateFault.TheVariants.{Memory, At}
-use Rattle.flag_text.proofs.PassLemmas.{first_refutes, one_at}
+use Rattle.flag_text.proofs.PassLemmas.{first_refutes, one_at, one_pair_cause}
+use Rattle.flag_text.specs.declared.vocabulary.Vocabulary.TheVariants.{Go}
+use Rattle.flag_text.specs.declared.pass.PairCause.TheVariants.{NoValue, NoBoolean}
 use Rattle.gate_flags.proofs.CutLemmas.{values_one}
 use Rattle.gate_flags.proofs.EitherLemmas.{valid_or_faulty}
 use Rattle.gate_flags.proofs.PassLemmas.{fault_refutes, refusal_refutes, fault_refuses}
 use Rattle.gate_flags.proofs.law.text_has_one_answer.Goals as goal
 
-abbrev cause_without : Option (List ℕ) → GateCause
-cause_without None = Missing
-cause_without (Some word) = BadBool
-
-has_word : (o : Option (List ℕ)) → IsSome o → BadBool ≡ cause_without o
-has_word (Some word) some = refl
-has_word None some = absurd cc
-
-fault_cause : (p : FlagPiece) (c : GateCause) → HasFault p c → c ≡ cause_without p.value
-fault_cause p Missing h = sym (ap cause_without h)
-fault_cause p BadBool h = has_word p.value h.0
-fault_cause p Unknown h = absurd h
-fault_cause p PreAlpha h = absurd h
-fault_cause p (Locked d) h = absurd h
+one_cause : (p : FlagPiece) (c d : GateCause) → HasFault p c → HasFault p d → c ≡ d
+one_cause p Missing Missing h k = refl
+one_cause p BadBool BadBool h k = refl
+one_cause p Missing BadBool h k = absurd (let e : NoValue ≡ NoBoolean = one_pair_cause Go p NoValue NoBoolean h k in cc)
+one_cause p BadBool Missing h k = absurd (let e : NoBoolean ≡ NoValue = one_pair_cause Go p NoBoolean NoValue h k in cc)
+one_cause p Unknown d h k = absurd h
+one_cause p PreAlpha d h k = absurd h
+one_cause p (Locked b) d h k = absurd h
+one_cause p Missing Unknown h k = absurd k
+one_cause p Missing PreAlpha h k = absurd k
+one_cause p Missing (Locked b) h k = absurd k
+one_cause p BadBool Unknown h k = absurd k
+one_cause p BadBool PreAlpha h k = absurd k
+one_cause p BadBool (Locked b) h k = absurd k
 
 abbrev refusal_by : SpecAt → GateCause
 refusal_by (Found stage default locked) = Locked default
@@ -54,7 +56,7 @@ one_fault : (entries : List GateEntry) (e : ℕ) (text : List ℕ) → RisesInDa
 one_fault entries e text up Memory g some other h k = absurd (some refl)
 one_fault entries e text up (At m c) Memory some other h k = absurd (other refl)
 one_fault entries e text up (At m c) (At n d) some other (inl h) (inl k) =
-    one_at At IsAssignment HasFault (pieces text) m n c d fault_refutes (λ p c d a b. fault_cause p c a ∙ sym (fault_cause p d b)) h k
+    one_at At IsAssignment HasFault (pieces text) m n c d fault_refutes one_cause h k
 one_fault entries e text up (At m c) (At n d) some other (inl h) (inr k) = absurd (first_refutes IsAssignment (λ p. HasFault p c) (pieces text) m (λ p. fault_refutes p c) h k.0)
 one_fault entries e text up (At m c) (At n d) some other (inr h) (inl k) = absurd (first_refutes IsAssignment (λ p. HasFault p d) (pieces text) n (λ p. fault_refutes p d) k h.0)
 one_fault entries e text up (At m c) (At n d) some other (inr h) (inr k) =

@@ -3,7 +3,9 @@ use Rattle.std.proofs.lemmas.Bool.{false≢true}
 use Rattle.std.proofs.lemmas.List.Elements.{All-from_recursion}
 use Rattle.flag_text.specs.Passes.{StopsAt}
 use Rattle.flag_text.specs.Pieces.{FlagPiece, pieces, last_pieces}
-use Rattle.flag_text.proofs.PassLemmas.{first_refutes, one_at}
+use Rattle.flag_text.proofs.PassLemmas.{first_refutes, one_at, one_pair_cause}
+use Rattle.flag_text.specs.declared.vocabulary.Vocabulary.TheVariants.{Plain}
+use Rattle.flag_text.specs.declared.pass.PairCause.TheVariants.{NoValue, NoBoolean}
 use Rattle.lifecycle.specs.Tables.{cutoff}
 use Rattle.lifecycle.specs.declared.entry.ApiEntry.{ApiEntry}
 use Rattle.runtime_config.specs.Config.{IsPair, IsTakenKey, IsOnlyAllFalse, HasFault, IsRefused}
@@ -22,20 +24,20 @@ use Rattle.runtime_config.proofs.law.config_has_one_answer.Goals as goal
 one_set : (entries : List ApiEntry) (e : ℕ) (text : List ℕ) → HasOneServedSet entries e text
 one_set entries e text a b h k = one_in_order by_name by_name_total a b h.order k.order (λ x. ((λ c. (k.exact x).1 ((h.exact x).0 c)), (λ c. (h.exact x).1 ((k.exact x).0 c))))
 
-abbrev cause_without : Option (List ℕ) → ConfigCause
-cause_without None = BadPair
-cause_without (Some word) = BadBool
-
-has_word : (o : Option (List ℕ)) → IsSome o → BadBool ≡ cause_without o
-has_word (Some word) some = refl
-has_word None some = absurd cc
-
-fault_cause : (p : FlagPiece) (c : ConfigCause) → HasFault p c → c ≡ cause_without p.value
-fault_cause p BadPair h = sym (ap cause_without h)
-fault_cause p BadBool h = has_word p.value h.0
-fault_cause p UnknownApi h = absurd h
-fault_cause p AfterEmulated h = absurd h
-fault_cause p RemovedApi h = absurd h
+one_cause : (p : FlagPiece) (c d : ConfigCause) → HasFault p c → HasFault p d → c ≡ d
+one_cause p BadPair BadPair h k = refl
+one_cause p BadBool BadBool h k = refl
+one_cause p BadPair BadBool h k = absurd (let e : NoValue ≡ NoBoolean = one_pair_cause Plain p NoValue NoBoolean h k in cc)
+one_cause p BadBool BadPair h k = absurd (let e : NoBoolean ≡ NoValue = one_pair_cause Plain p NoBoolean NoValue h k in cc)
+one_cause p UnknownApi d h k = absurd h
+one_cause p AfterEmulated d h k = absurd h
+one_cause p RemovedApi d h k = absurd h
+one_cause p BadPair UnknownApi h k = absurd k
+one_cause p BadPair AfterEmulated h k = absurd k
+one_cause p BadPair RemovedApi h k = absurd k
+one_cause p BadBool UnknownApi h k = absurd k
+one_cause p BadBool AfterEmulated h k = absurd k
+one_cause p BadBool RemovedApi h k = absurd k
 
 -- what is introduced is spoken of, so the three causes exclude each other
 one_refusal : (entries : List ApiEntry) (e : ℕ) (p : FlagPiece) (c d : ConfigCause) → IsRefused entries e p c → IsRefused entries e p d → c ≡ d
@@ -80,7 +82,7 @@ module _ (entries : List ApiEntry) (e : ℕ) (text : List ℕ) where
   one_fault OnlyAllFalse (At n d) some other h (inr k) = absurd (no_second n d k.1 (only_taken h.only))
   one_fault (At m c) OnlyAllFalse some other (inl h) k = absurd (no_first m c h k.pairs)
   one_fault (At m c) OnlyAllFalse some other (inr h) k = absurd (no_second m c h.1 (only_taken k.only))
-  one_fault (At m c) (At n d) some other (inl h) (inl k) = one_at At IsPair HasFault (pieces text) m n c d fault_refutes (λ p c d a b. fault_cause p c a ∙ sym (fault_cause p d b)) h k
+  one_fault (At m c) (At n d) some other (inl h) (inl k) = one_at At IsPair HasFault (pieces text) m n c d fault_refutes one_cause h k
   one_fault (At m c) (At n d) some other (inl h) (inr k) = absurd (no_first m c h k.0)
   one_fault (At m c) (At n d) some other (inr h) (inl k) = absurd (no_first n d k h.0)
   one_fault (At m c) (At n d) some other (inr h) (inr k) = one_at At Taken (IsRefused entries e) (last_pieces (pieces text)) m n c d (refusal_refutes entries e) (one_refusal entries e) h.1 k.1

@@ -1,14 +1,10 @@
-use Rattle.std.proofs.Common.{sym, ap, rules}
-use Rattle.runtime_config.specs.Config.{IsPair}
-use Rattle.flag_text.proofs.PassLemmas.{first_at, fine_more, fine_all}
+use Rattle.flag_text.specs.Passes.{HasBoolean, LacksBoolean}
+use Rattle.flag_text.specs.declared.vocabulary.Vocabulary.TheVariants.{Plain}
+use Rattle.flag_text.proofs.PassLemmas.{first_with}
+use Rattle.runtime_config.specs.Config.{IsPair, HasFault}
 use Rattle.runtime_config.proofs.passes.first_fault.Goals as goal
 
 pub returns-in-Some-clause-some : goal.returns-in-Some-clause-some
 returns-in-Some-clause-some c =
-    first_at IsPair _ c.args.pieces.now c.loop-piece.piece-index c.piece-item.result _ c.loop-piece-test.true c.piece-item.is c.loop-piece.invariant c.in-Some.ensures.some (sym (ap (λ p. p.place) c.piece.view_is))
-
-pub loop-piece-preserved : goal.loop-piece-preserved
-loop-piece-preserved c = fine_more IsPair c.args.pieces.now c.loop-piece.piece-index c.piece-item.result c.loop-piece-test.true c.piece-item.is c.loop-piece.invariant c.in_default.ensures.none
-
-pub returns-clause-none : goal.returns-clause-none
-returns-clause-none c = fine_all IsPair c.args.pieces.now c.loop-piece.piece-index (search rules) c.loop-piece.invariant
+    let h = c.in-Some.ensures.some in
+    first_with (HasBoolean Plain) IsPair (λ p. LacksBoolean Plain p _) (λ p. HasFault p c.cause_named.result) c.args.pieces.now _ (λ p fine. fine) h (c.cause_named.ensures h.piece h.first.faulty)
