@@ -48,9 +48,7 @@ pub fn first_broken(
 ) -> Result<Option<Broken>, Memory>
     ensures { IfOk result (FindsFault (lists first gates.now apis.now fields.now spells.now) field_checks) }
 {
-    let Ok(index) = Index::new(alloc, first, gates, apis, fields, spells) else {
-        return Err(Memory);
-    };
+    let index = Index::new(alloc, first, gates, apis, fields, spells)?;
     match first_misplaced(alloc, &index, fields) {
         Ok(Some(number)) => return broken_by_field(11, number),
         Ok(None) => {}

@@ -69,7 +69,8 @@ pub fn has_forgetting_by(entries: Option<&Vec<&ApiEntry>>, by: Minor) -> bool
 
 /// Whether one of the entries is an introduction so that the later of it and of the field's date is this date.
 pub fn has_introduction_for(entries: Option<&Vec<&ApiEntry>>, field: Minor, date: Minor) -> bool
-    ensures { IsTrue result ↔ HasLent (λ x. IsIntroduction x.change × (date ≡ max field x.since)) entries.entry }
+    ensures { IsTrue result
+        ↔ HasLent (λ x. IsIntroduction x.change × (date ≡ max field x.since)) entries.entry }
 {
     match entries {
         Some(entries) => {
@@ -137,7 +138,8 @@ pub fn is_apart_from(entries: Option<&Vec<&Spell>>, spell: &Spell) -> bool
 
 /// Whether the spelling fits each of the fields that has its id.
 pub fn fits_fields(entries: Option<&Vec<&Field>>, spell: &Spell) -> bool
-    ensures { IsTrue result ↔ EachLent (λ x. x.id ≡ spell.now.field → FitsType x.ty spell.now.form spell.now.default) entries.entry }
+    ensures { IsTrue result
+        ↔ EachLent (λ x. x.id ≡ spell.now.field → FitsType x.ty spell.now.form spell.now.default) entries.entry }
 {
     match entries {
         Some(entries) => {

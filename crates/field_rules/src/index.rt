@@ -100,7 +100,8 @@ impl<'a> Index<'a> {
 
     /// Whether some version of the field's resource is introduced by this release.
     pub fn is_versioned_by(&self, field: &'a Field, by: Minor) -> bool
-        ensures { IsTrue result ↔ Any (λ x. IntroducesVersionOf field.now.group field.now.resource x × (x.since ≤ by)) self.now.apis }
+        ensures { IsTrue result
+            ↔ Any (λ x. IntroducesVersionOf field.now.group field.now.resource x × (x.since ≤ by)) self.now.apis }
     {
         let group = field.group.bytes();
         let resource = field.resource.bytes();
@@ -109,7 +110,8 @@ impl<'a> Index<'a> {
 
     /// Whether each version of the field's resource is introduced at or after the field's date.
     pub fn is_from_start(&self, field: &'a Field) -> bool
-        ensures { IsTrue result ↔ All (λ x. IntroducesVersionOf field.now.group field.now.resource x → field.now.since ≤ x.since) self.now.apis }
+        ensures { IsTrue result
+            ↔ All (λ x. IntroducesVersionOf field.now.group field.now.resource x → field.now.since ≤ x.since) self.now.apis }
     {
         let group = field.group.bytes();
         let resource = field.resource.bytes();
@@ -134,13 +136,15 @@ impl<'a> Index<'a> {
         resource: &'a [u8],
         by: Minor,
     ) -> bool
-        ensures { IsTrue result ↔ IsForgotten self.now.apis (name_of group.now version.now resource.now) by }
+        ensures { IsTrue result
+            ↔ IsForgotten self.now.apis (name_of group.now version.now resource.now) by }
     {
         has_forgetting_by(listed(&self.apis_by_version, group, version, resource), by)
     }
 
     fn has_spelling_in(&self, field: &'a Field, entry: &'a ApiEntry) -> bool
-        ensures { IsTrue result ↔ Any (λ s. IsOfVersion (subject entry.now) s × (s.field ≡ field.now.id)) self.now.spells }
+        ensures { IsTrue result
+            ↔ Any (λ s. IsOfVersion (subject entry.now) s × (s.field ≡ field.now.id)) self.now.spells }
     {
         let group = entry.group.bytes();
         let version = entry.version.bytes();
@@ -180,7 +184,8 @@ impl<'a> Index<'a> {
 
     /// Whether each pair of the field with a version has a spelling.
     pub fn is_spelled_throughout(&self, field: &'a Field) -> bool
-        ensures { IsTrue result ↔ All (λ x. IsPair self.now.apis field.now x → Any (IsSpelling field.now (subject x)) self.now.spells) self.now.apis }
+        ensures { IsTrue result
+            ↔ All (λ x. IsPair self.now.apis field.now x → Any (IsSpelling field.now (subject x)) self.now.spells) self.now.apis }
     {
         let group = field.group.bytes();
         let resource = field.resource.bytes();
@@ -188,7 +193,8 @@ impl<'a> Index<'a> {
     }
 
     fn is_introduced_for(&self, field: &Field, spell: &'a Spell) -> bool
-        ensures { IsTrue result ↔ Any (λ x. IsOfVersion (subject x) spell.now × IsIntroduction x.change × (spell.now.since ≡ max field.now.since x.since)) self.now.apis }
+        ensures { IsTrue result
+            ↔ Any (λ x. IsOfVersion (subject x) spell.now × IsIntroduction x.change × (spell.now.since ≡ max field.now.since x.since)) self.now.apis }
     {
         let group = spell.group.bytes();
         let version = spell.version.bytes();
@@ -213,7 +219,8 @@ impl<'a> Index<'a> {
     }
 
     fn pairs_with_one(&self, entries: Option<&Vec<&'a Field>>, spell: &'a Spell) -> bool
-        ensures { IsTrue result ↔ HasLent (λ f. (f.id ≡ spell.now.field) × PairsWith self.now f spell.now) entries.entry }
+        ensures { IsTrue result
+            ↔ HasLent (λ f. (f.id ≡ spell.now.field) × PairsWith self.now f spell.now) entries.entry }
     {
         let Some(entries) = entries else {
             return false;
@@ -240,7 +247,8 @@ impl<'a> Index<'a> {
 
     /// Whether the spelling fits the type of its field.
     pub fn fits_field(&self, spell: &'a Spell) -> bool
-        ensures { IsTrue result ↔ All (λ f. IsOfField f spell.now → FitsType f.ty spell.now.form spell.now.default) self.now.fields }
+        ensures { IsTrue result
+            ↔ All (λ f. IsOfField f spell.now → FitsType f.ty spell.now.form spell.now.default) self.now.fields }
     {
         let group = spell.group.bytes();
         let resource = spell.resource.bytes();

@@ -67,7 +67,8 @@ pub fn take_field<'a>(
     fields: &mut Listing<'a, Field>,
     entry: &'a Field,
 ) -> Result<(), Memory>
-    ensures { OnOk result ((entries : List TheField) → IsListing resource_of_field entries fields.old → IsListing resource_of_field (entries ++ entry.now ∷ []) fields.new) }
+    ensures { OnOk result ((entries : List TheField) → IsListing resource_of_field entries fields.old
+        → IsListing resource_of_field (entries ++ entry.now ∷ []) fields.new) }
 {
     let (group, resource, rest) = resource_of_field(entry);
     add(alloc, fields, group, resource, rest, entry)
@@ -79,7 +80,8 @@ pub fn take_spell<'a>(
     spells: &mut Listing<'a, Spell>,
     entry: &'a Spell,
 ) -> Result<(), Memory>
-    ensures { OnOk result ((entries : List TheSpell) → IsListing version_of_spell entries spells.old → IsListing version_of_spell (entries ++ entry.now ∷ []) spells.new) }
+    ensures { OnOk result ((entries : List TheSpell) → IsListing version_of_spell entries spells.old
+        → IsListing version_of_spell (entries ++ entry.now ∷ []) spells.new) }
 {
     let (group, version, resource) = version_of_spell(entry);
     add(alloc, spells, group, version, resource, entry)

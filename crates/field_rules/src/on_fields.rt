@@ -27,7 +27,8 @@ fn begin(first: Minor, field: &Field) -> Minor
 }
 
 fn is_once<'a>(earlier: &Listing<'a, Field>, field: &'a Field) -> bool
-    ensures { (fields : List TheField) → IsListing resource_of_field fields earlier.now → IsTrue result ↔ All (λ y. ¬ AreOneField field.now y) fields }
+    ensures { (fields : List TheField) → IsListing resource_of_field fields earlier.now
+        → IsTrue result ↔ All (λ y. ¬ AreOneField field.now y) fields }
 {
     let group = field.group.bytes();
     let resource = field.resource.bytes();
@@ -35,7 +36,8 @@ fn is_once<'a>(earlier: &Listing<'a, Field>, field: &'a Field) -> bool
 }
 
 fn is_of_few<'a>(earlier: &Listing<'a, Field>, field: &'a Field) -> bool
-    ensures { (fields : List TheField) → IsListing resource_of_field fields earlier.now → IsTrue result ↔ (length (filter (is_of_resource field.now) fields) < 64) }
+    ensures { (fields : List TheField) → IsListing resource_of_field fields earlier.now
+        → IsTrue result ↔ (length (filter (is_of_resource field.now) fields) < 64) }
 {
     let group = field.group.bytes();
     let resource = field.resource.bytes();
@@ -43,7 +45,8 @@ fn is_of_few<'a>(earlier: &Listing<'a, Field>, field: &'a Field) -> bool
 }
 
 fn belongs<'a>(index: &Index<'a>, earlier: &Listing<'a, Field>, field: &'a Field) -> bool
-    ensures { (fields : List TheField) → IsListing resource_of_field fields earlier.now → IsTrue result ↔ BelongsToResource (first_of index.now) index.now.apis fields field.now }
+    ensures { (fields : List TheField) → IsListing resource_of_field fields earlier.now
+        → IsTrue result ↔ BelongsToResource (first_of index.now) index.now.apis fields field.now }
 {
     is_once(earlier, field)
         && is_of_few(earlier, field)

@@ -19,7 +19,8 @@ use std::alloc::Global;
 use std::collections::BTreeMap;
 
 fn is_single<'a>(earlier: &Listing<'a, Spell>, spell: &'a Spell) -> bool
-    ensures { (spells : List TheSpell) → IsListing version_of_spell spells earlier.now → IsTrue result ↔ All (λ t. ¬ AreOfOnePair spell.now t) spells }
+    ensures { (spells : List TheSpell) → IsListing version_of_spell spells earlier.now
+        → IsTrue result ↔ All (λ t. ¬ AreOfOnePair spell.now t) spells }
 {
     let group = spell.group.bytes();
     let version = spell.version.bytes();
@@ -28,7 +29,8 @@ fn is_single<'a>(earlier: &Listing<'a, Spell>, spell: &'a Spell) -> bool
 }
 
 fn spells_pair_once<'a>(index: &Index<'a>, earlier: &Listing<'a, Spell>, spell: &'a Spell) -> bool
-    ensures { (spells : List TheSpell) → IsListing version_of_spell spells earlier.now → IsTrue result ↔ SpellsPairOnce index.now.apis index.now.fields spells spell.now }
+    ensures { (spells : List TheSpell) → IsListing version_of_spell spells earlier.now
+        → IsTrue result ↔ SpellsPairOnce index.now.apis index.now.fields spells spell.now }
 {
     index.is_paired(spell) && is_single(earlier, spell)
 }
@@ -55,7 +57,8 @@ pub fn first_unpaired<'a>(
 }
 
 fn is_apart<'a>(earlier: &Listing<'a, Spell>, spell: &'a Spell) -> bool
-    ensures { (spells : List TheSpell) → IsListing version_of_spell spells earlier.now → IsTrue result ↔ All (λ t. AreForOneVersion spell.now t → AreApart spell.now.path t.path) spells }
+    ensures { (spells : List TheSpell) → IsListing version_of_spell spells earlier.now
+        → IsTrue result ↔ All (λ t. AreForOneVersion spell.now t → AreApart spell.now.path t.path) spells }
 {
     let group = spell.group.bytes();
     let version = spell.version.bytes();
@@ -64,7 +67,8 @@ fn is_apart<'a>(earlier: &Listing<'a, Spell>, spell: &'a Spell) -> bool
 }
 
 fn has_own_path<'a>(earlier: &Listing<'a, Spell>, spell: &'a Spell) -> bool
-    ensures { (spells : List TheSpell) → IsListing version_of_spell spells earlier.now → IsTrue result ↔ HasOwnPath spells spell.now }
+    ensures { (spells : List TheSpell) → IsListing version_of_spell spells earlier.now
+        → IsTrue result ↔ HasOwnPath spells spell.now }
 {
     begins_free(spell.path.items()) && is_apart(earlier, spell)
 }

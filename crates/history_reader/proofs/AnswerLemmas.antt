@@ -21,6 +21,8 @@ use Rattle.schemas.specs.Dated.{Dated}
 use Rattle.schemas.specs.declared.array.Array.{Array}
 use Rattle.schemas.proofs.DecisionLemmas.{at_most_decided, decided}
 use Rattle.history_reader.specs.declared.demand.Shape.{Shape}
+use Rattle.history_reader.specs.declared.demand.Shape.TheVariants.{Text}
+use Rattle.history_reader.specs.declared.demand.TextShape.TheVariants as text
 use Rattle.history_reader.specs.declared.read.HistoryFault.{HistoryFault}
 use Rattle.history_reader.specs.declared.read.HistoryFault.TheVariants.{Memory, TooLong, NotToml, BadEntry}
 use Rattle.history_reader.specs.Demands.{IsRelease, IsFormWord, Meets, HasShape, TextHasShape}
@@ -59,15 +61,15 @@ only_true : (o : Option Data) → IsSomeAnd o (HasShape Shape.OnlyTrue) → opti
 only_true None h = absurd h
 only_true (Some d) h = h
 
-release_held : (name : List ℕ) (t : Members) → IsSomeAnd (get_member name t) (HasShape Shape.Release) → (k : ℕ) × IsReleaseAt name t k
+release_held : (name : List ℕ) (t : Members) → IsSomeAnd (get_member name t) (HasShape (Text text.Release)) → (k : ℕ) × IsReleaseAt name t k
 release_held name t h =
-    let text = held as_str IsRelease (get_member name t) h in
-    (text.2.0, record { text = text.1 ∙ ap Some text.2.2; bound = text.2.1 })
+    let found = held as_str IsRelease (get_member name t) h in
+    (found.2.0, record { text = found.1 ∙ ap Some found.2.2; bound = found.2.1 })
 
-optional_release : (name : List ℕ) (t : Members) (o : Option Data) → get_member name t ≡ o → IfSome o (HasShape Shape.Release) → (r : Option ℕ) × HoldsRelease name t r
+optional_release : (name : List ℕ) (t : Members) (o : Option Data) → get_member name t ≡ o → IfSome o (HasShape (Text text.Release)) → (r : Option ℕ) × HoldsRelease name t r
 optional_release name t None is h = (None, is)
 optional_release name t (Some d) is h =
-    let P : Option Data → Type 0 = λ o. IsSomeAnd o (HasShape Shape.Release) in
+    let P : Option Data → Type 0 = λ o. IsSomeAnd o (HasShape (Text text.Release)) in
     let there = release_held name t (subst P (sym is) h) in
     (Some there.0, there.1)
 
@@ -75,7 +77,7 @@ word_form : (o : Option (List ℕ)) → IsSomeAnd o IsFormWord → (f : Form) ×
 word_form None h = absurd h
 word_form (Some w) h = h
 
-form_held : (o : Option Data) → IfSome o (HasShape Shape.FormWord) → (f : Form) × MatchOption (option_and_then as_str o) (f ≡ Same) (λ w. w ≡ form_word f)
+form_held : (o : Option Data) → IfSome o (HasShape (Text text.FormWord)) → (f : Form) × MatchOption (option_and_then as_str o) (f ≡ Same) (λ w. w ≡ form_word f)
 form_held None h = (Same, refl)
 form_held (Some d) h = word_form (as_str d) h
 
@@ -83,24 +85,24 @@ form_held (Some d) h = word_form (as_str d) h
 
 gate_change : (t : Members) (o : Option Data) → get_member (codes "removed") t ≡ o → MeetsRows (if is_some o then removal_rows else spec_rows) t → (c : GateChange) × IsGateChange t c
 gate_change t None is met =
-    let stage = held as_str (TextHasShape Shape.StageWord) (get_member (codes "stage") t) met.0 in
+    let stage = held as_str (TextHasShape text.StageWord) (get_member (codes "stage") t) met.0 in
     let default = flag_held (get_member (codes "default") t) met.1.0 in
     (Spec stage.2.0 default.0 (unwrap_or (flag_at (codes "locked") t) false), (is, stage.1 ∙ ap Some stage.2.1, default.1, refl))
 gate_change t (Some d) is met = (Gone, only_true (get_member (codes "removed") t) met.0)
 
 gate_of : (t : Members) → MeetsRows (gate_rows t) t → (x : GateEntry) × IsGateEntry t x
 gate_of t met =
-    let name = held as_str (TextHasShape Shape.GateName) (get_member (codes "name") t) met.0 in
+    let name = held as_str (TextHasShape text.GateName) (get_member (codes "name") t) met.0 in
     let since = release_held (codes "since") t met.1.0 in
     let change = gate_change t (get_member (codes "removed") t) refl met.1.1 in
     (record { name = name.0; since = since.0; change = change.0 }, record { name = name.1; since = since.1; change = change.1 })
 
-api_change : (t : Members) (event : List ℕ) → text_at (codes "event") t ≡ Some event → TextHasShape Shape.EventWord event → MeetsRows (api_rows t) t → (c : ApiChange) × IsApiChange t c
+api_change : (t : Members) (event : List ℕ) → text_at (codes "event") t ≡ Some event → TextHasShape text.EventWord event → MeetsRows (api_rows t) t → (c : ApiChange) × IsApiChange t c
 api_change t event is (inl e) met =
     let introduced = is ∙ ap Some e in
     let brought = event_met t (codes "introduced") introduced met in
-    let kind = held as_str (TextHasShape Shape.KindName) (get_member (codes "kind") t) brought.0 in
-    let singular = held as_str (TextHasShape Shape.ResourceName) (get_member (codes "singular") t) brought.1.0 in
+    let kind = held as_str (TextHasShape text.KindName) (get_member (codes "kind") t) brought.0 in
+    let singular = held as_str (TextHasShape text.ResourceName) (get_member (codes "singular") t) brought.1.0 in
     let namespaced = flag_held (get_member (codes "namespaced") t) brought.1.1.0 in
     let enabled = flag_held (get_member (codes "enabled") t) brought.1.1.1.0 in
     (api.Introduced kind.0 singular.0 namespaced.0 enabled.0, (introduced, kind.1, singular.1, namespaced.1, enabled.1))
@@ -108,43 +110,46 @@ api_change t event is (inr (inl e)) met =
     let deprecated = is ∙ ap Some e in
     let brought = event_met t (codes "deprecated") deprecated met in
     let removal = release_held (codes "removal") t brought.0 in
-    let replacement = held as_str (TextHasShape Shape.VersionWord) (get_member (codes "replacement") t) brought.1.0 in
+    let replacement = held as_str (TextHasShape text.VersionWord) (get_member (codes "replacement") t) brought.1.0 in
     (api.Deprecated removal.0 replacement.0, (deprecated, removal.1, replacement.1))
 api_change t event is (inr (inr (inl e))) met = (api.Removed, is ∙ ap Some e)
 api_change t event is (inr (inr (inr e))) met = (api.Forgotten, is ∙ ap Some e)
 
 api_of : (t : Members) → MeetsRows (api_rows t) t → (x : ApiEntry) × IsApiEntry t x
 api_of t met =
-    let group = held as_str (TextHasShape Shape.GroupName) (get_member (codes "group") t) met.0 in
-    let version = held as_str (TextHasShape Shape.VersionWord) (get_member (codes "version") t) met.1.0 in
-    let resource = held as_str (TextHasShape Shape.ResourceName) (get_member (codes "resource") t) met.1.1.0 in
+    let group = held as_str (TextHasShape text.GroupName) (get_member (codes "group") t) met.0 in
+    let version = held as_str (TextHasShape text.VersionWord) (get_member (codes "version") t) met.1.0 in
+    let resource = held as_str (TextHasShape text.ResourceName) (get_member (codes "resource") t) met.1.1.0 in
     let since = release_held (codes "since") t met.1.1.1.0 in
-    let event = held as_str (TextHasShape Shape.EventWord) (get_member (codes "event") t) met.1.1.1.1.0 in
-    let change = api_change t event.0 event.1 event.2 met in
-    (record { group = group.0; version = version.0; resource = resource.0; since = since.0; change = change.0 },
-     record { group = group.1; version = version.1; resource = resource.1; since = since.1; change = change.1 })
+    let event = held as_str (TextHasShape text.EventWord) (get_member (codes "event") t) met.1.1.1.1.0 in
+    let change = api_change t event.0 event.1 event.2 met in (
+      record { group = group.0; version = version.0; resource = resource.0; since = since.0; change = change.0 },
+      record { group = group.1; version = version.1; resource = resource.1; since = since.1; change = change.1 },
+    )
 
 field_of : (t : Members) → MeetsRows field_rows t → (x : Field) × IsFieldEntry t x
 field_of t met =
-    let group = held as_str (TextHasShape Shape.GroupName) (get_member (codes "group") t) met.0 in
-    let resource = held as_str (TextHasShape Shape.ResourceName) (get_member (codes "resource") t) met.1.0 in
-    let id = held as_str (TextHasShape Shape.FieldId) (get_member (codes "id") t) met.1.1.0 in
+    let group = held as_str (TextHasShape text.GroupName) (get_member (codes "group") t) met.0 in
+    let resource = held as_str (TextHasShape text.ResourceName) (get_member (codes "resource") t) met.1.0 in
+    let id = held as_str (TextHasShape text.FieldId) (get_member (codes "id") t) met.1.1.0 in
     let since = release_held (codes "since") t met.1.1.1.0 in
-    let ty = held as_str (TextHasShape Shape.TypeWord) (get_member (codes "type") t) met.1.1.1.1.0 in
-    (record { group = group.0; resource = resource.0; id = id.0; since = since.0; ty = ty.2.0; required = unwrap_or (flag_at (codes "required") t) false; gate = text_at (codes "gate") t },
-     record { group = group.1; resource = resource.1; id = id.1; since = since.1; ty = ty.1 ∙ ap Some ty.2.1; required = refl; gate = refl })
+    let ty = held as_str (TextHasShape text.TypeWord) (get_member (codes "type") t) met.1.1.1.1.0 in (
+      record { group = group.0; resource = resource.0; id = id.0; since = since.0; ty = ty.2.0; required = unwrap_or (flag_at (codes "required") t) false; gate = text_at (codes "gate") t },
+      record { group = group.1; resource = resource.1; id = id.1; since = since.1; ty = ty.1 ∙ ap Some ty.2.1; required = refl; gate = refl },
+    )
 
 spell_of : (t : Members) → MeetsRows spell_rows t → (x : Spell) × IsSpellEntry t x
 spell_of t met =
-    let group = held as_str (TextHasShape Shape.GroupName) (get_member (codes "group") t) met.0 in
-    let resource = held as_str (TextHasShape Shape.ResourceName) (get_member (codes "resource") t) met.1.0 in
-    let version = held as_str (TextHasShape Shape.VersionWord) (get_member (codes "version") t) met.1.1.0 in
-    let field = held as_str (TextHasShape Shape.FieldId) (get_member (codes "field") t) met.1.1.1.0 in
+    let group = held as_str (TextHasShape text.GroupName) (get_member (codes "group") t) met.0 in
+    let resource = held as_str (TextHasShape text.ResourceName) (get_member (codes "resource") t) met.1.0 in
+    let version = held as_str (TextHasShape text.VersionWord) (get_member (codes "version") t) met.1.1.0 in
+    let field = held as_str (TextHasShape text.FieldId) (get_member (codes "field") t) met.1.1.1.0 in
     let since = release_held (codes "since") t met.1.1.1.1.0 in
-    let path = held as_str (TextHasShape Shape.PathText) (get_member (codes "path") t) met.1.1.1.1.1.0 in
-    let form = form_held (get_member (codes "form") t) met.1.1.1.1.1.1.0 in
-    (record { group = group.0; resource = resource.0; version = version.0; field = field.0; since = since.0; path = path_in path.0; form = form.0; default = option_and_then scalar_in (get_member (codes "default") t) },
-     record { group = group.1; resource = resource.1; version = version.1; field = field.1; since = since.1; path = ap (λ o. option_map path_in o) path.1; form = form.1; default = refl })
+    let path = held as_str (TextHasShape text.PathText) (get_member (codes "path") t) met.1.1.1.1.1.0 in
+    let form = form_held (get_member (codes "form") t) met.1.1.1.1.1.1.0 in (
+      record { group = group.0; resource = resource.0; version = version.0; field = field.0; since = since.0; path = path_in path.0; form = form.0; default = option_and_then scalar_in (get_member (codes "default") t) },
+      record { group = group.1; resource = resource.1; version = version.1; field = field.1; since = since.1; path = ap (λ o. option_map path_in o) path.1; form = form.1; default = refl },
+    )
 
 list_of : {X : Type 0} (array : Array) (P : Members → X → Type 0) → ((t : Members) → MeetsRows (rows_of array t) t → (x : X) × P t x)
     → (ts : List Members) → AllByRecursion (λ t. MeetsRows (rows_of array t) t) ts → (xs : List X) × AllZip P ts xs
@@ -165,9 +170,10 @@ history_of ms passed =
     let gates = list_of Array.Gate IsGateEntry gate_of (tables_at (codes "gate") ms) (entries_met Array.Gate 1 _ arrays.0) in
     let apis = list_of Array.Api IsApiEntry api_of (tables_at (codes "api") ms) (entries_met Array.Api 1 _ arrays.1.0) in
     let fields = list_of Array.Field IsFieldEntry field_of (tables_at (codes "field") ms) (entries_met Array.Field 1 _ arrays.1.1.0) in
-    let spells = list_of Array.Spell IsSpellEntry spell_of (tables_at (codes "spell") ms) (entries_met Array.Spell 1 _ arrays.1.1.1.0) in
-    (record { first = first.0; last = last.0; gates = gates.0; apis = apis.0; fields = fields.0; spells = spells.0 },
-     record { first = first.1; last = last.1; gates = gates.1; apis = apis.1; fields = fields.1; spells = spells.1 })
+    let spells = list_of Array.Spell IsSpellEntry spell_of (tables_at (codes "spell") ms) (entries_met Array.Spell 1 _ arrays.1.1.1.0) in (
+      record { first = first.0; last = last.0; gates = gates.0; apis = apis.0; fields = fields.0; spells = spells.0 },
+      record { first = first.1; last = last.1; gates = gates.1; apis = apis.1; fields = fields.1; spells = spells.1 },
+    )
 
 -- tests of which none is the first that fails pass
 pass_or_fail : (tests : List Test) → ((p : Place) → ¬ IsFirstFault tests p) → ¬ ¬ AllByRecursion Passes tests

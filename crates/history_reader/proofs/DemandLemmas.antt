@@ -5,29 +5,7 @@ use Rattle.std.proofs.lemmas.List.Elements.{recursion_from_All, All-from_recursi
 use Rattle.toml.specs.Data.{Data, as_str, as_table}
 use Rattle.toml.specs.View.{view, items_view}
 use Rattle.toml.specs.declared.value.Value.{Value}
-use Rattle.history_reader.specs.declared.demand.Shape.{Shape}
-use Rattle.history_reader.specs.declared.demand.Shape.TheVariants.{Release, GateName, StageWord, Flag, OnlyTrue, GroupName, VersionWord, ResourceName, KindName, EventWord, FieldId, TypeWord, PathText, FormWord, Scalar, Tables}
-use Rattle.history_reader.specs.Demands.{AreTables, TextHasShape, HasShape}
-
--- a shape that is none of the other types' is that of a text
-pub text_shape : (s : Shape) (d : Data) (t : List ℕ) (b : Bool) → (s ≡ Flag → ⊥) → (s ≡ OnlyTrue → ⊥) → (s ≡ Scalar → ⊥) → (s ≡ Tables → ⊥)
-    → Some t ≡ as_str d → IsTrue b ↔ TextHasShape s t → IsTrue b ↔ HasShape s d
-text_shape Release d t b f o z a e h = rw (← e) h
-text_shape GateName d t b f o z a e h = rw (← e) h
-text_shape StageWord d t b f o z a e h = rw (← e) h
-text_shape Flag d t b f o z a e h = absurd (f refl)
-text_shape OnlyTrue d t b f o z a e h = absurd (o refl)
-text_shape GroupName d t b f o z a e h = rw (← e) h
-text_shape VersionWord d t b f o z a e h = rw (← e) h
-text_shape ResourceName d t b f o z a e h = rw (← e) h
-text_shape KindName d t b f o z a e h = rw (← e) h
-text_shape EventWord d t b f o z a e h = rw (← e) h
-text_shape FieldId d t b f o z a e h = rw (← e) h
-text_shape TypeWord d t b f o z a e h = rw (← e) h
-text_shape PathText d t b f o z a e h = rw (← e) h
-text_shape FormWord d t b f o z a e h = rw (← e) h
-text_shape Scalar d t b f o z a e h = absurd (z refl)
-text_shape Tables d t b f o z a e h = absurd (a refl)
+use Rattle.history_reader.specs.Demands.{AreTables}
 
 tables_down : (vs : List Value) → AllByRecursion (λ v. IsSome (as_table (view v))) vs → AreTables (items_view vs)
 tables_down [] h = tt

@@ -12,7 +12,9 @@ use Rattle.fields.specs.declared.value.FieldType.{FieldType}
 use Rattle.schemas.specs.Shapes.{IsGateName, IsGroup, IsResource, IsKind, IsFieldId, IsScalar}
 use Rattle.history_reader.specs.Words.{type_word, form_word, path_in, scalar_in}
 use Rattle.history_reader.specs.declared.demand.Shape.{Shape}
-use Rattle.history_reader.specs.declared.demand.Shape.TheVariants.{Release, GateName, StageWord, Flag, OnlyTrue, GroupName, VersionWord, ResourceName, KindName, EventWord, FieldId, TypeWord, PathText, FormWord, Scalar, Tables}
+use Rattle.history_reader.specs.declared.demand.Shape.TheVariants.{Flag, OnlyTrue, Scalar, Tables, Text}
+use Rattle.history_reader.specs.declared.demand.TextShape.{TextShape}
+use Rattle.history_reader.specs.declared.demand.TextShape.TheVariants.{Release, GateName, StageWord, GroupName, VersionWord, ResourceName, KindName, EventWord, FieldId, TypeWord, PathText, FormWord}
 use Rattle.history_reader.specs.declared.demand.Demand.{Demand}
 use Rattle.history_reader.specs.declared.demand.Demand.TheVariants.{Required, Optional, Absent}
 
@@ -26,7 +28,9 @@ IsStage text = (s : Stage) × (text ≡ stage_word s)
 
 -- the word of what happens to an API version
 abbrev pub IsEvent : List ℕ → Type 0
-IsEvent text = (text ≡ codes "introduced") ⊎ (text ≡ codes "deprecated") ⊎ (text ≡ codes "removed") ⊎ (text ≡ codes "forgotten")
+IsEvent text =
+    (text ≡ codes "introduced") ⊎ (text ≡ codes "deprecated") ⊎ (text ≡ codes "removed")
+    ⊎ (text ≡ codes "forgotten")
 
 -- the word of a field's type, or of a form
 abbrev pub IsTypeWord : List ℕ → Type 0
@@ -44,8 +48,8 @@ abbrev pub AreTables : Items → Type 0
 AreTables no_items = Unit {0}
 AreTables (item d ds) = IsSome (as_table d) × AreTables ds
 
--- the text is of a shape that texts have
-abbrev pub TextHasShape : Shape → List ℕ → Type 0
+-- the text is of the shape
+abbrev pub TextHasShape : TextShape → List ℕ → Type 0
 TextHasShape Release = IsRelease
 TextHasShape GateName = IsGateName
 TextHasShape StageWord = IsStage
@@ -58,10 +62,6 @@ TextHasShape FieldId = IsFieldId
 TextHasShape TypeWord = IsTypeWord
 TextHasShape PathText = IsPathText
 TextHasShape FormWord = IsFormWord
-TextHasShape Scalar = λ _. ⊥
-TextHasShape Flag = λ _. ⊥
-TextHasShape OnlyTrue = λ _. ⊥
-TextHasShape Tables = λ _. ⊥
 
 -- the value is of the type and the shape
 abbrev pub HasShape : Shape → Data → Type 0
@@ -69,7 +69,11 @@ HasShape Flag d = IsSome (as_bool d)
 HasShape OnlyTrue d = as_bool d ≡ Some true
 HasShape Scalar d = IsSomeAnd (scalar_in d) IsScalar
 HasShape Tables d = IsSomeAnd (as_array d) AreTables
-HasShape shape d = IsSomeAnd (as_str d) (TextHasShape shape)
+HasShape (Text shape) d = IsSomeAnd (as_str d) (TextHasShape shape)
+
+-- the value is the text of a release
+abbrev pub IsReleaseText : Data → Type 0
+IsReleaseText d = HasShape (Text Release) d
 
 -- what stands at a member, if anything does, is what must stand there
 abbrev pub Meets : Demand → Option Data → Type 0

@@ -11,11 +11,15 @@ MeansOneHistory = (text : List ℕ) (h k : Dated) → MeansHistory text h → Me
 
 -- what means a history is refused for want of memory alone
 abbrev pub MeansOrIsRefused : Type 0
-MeansOrIsRefused = (text : List ℕ) (h : Dated) (fault : HistoryFault) → MeansHistory text h → IsRefused text fault → fault ≡ Memory
+MeansOrIsRefused =
+    (text : List ℕ) (h : Dated) (fault : HistoryFault) → MeansHistory text h → IsRefused text fault
+    → fault ≡ Memory
 
 -- a text is refused for one cause, at one place
 abbrev pub HasOneFault : Type 0
-HasOneFault = (text : List ℕ) (e f : HistoryFault) → e ≢ Memory → f ≢ Memory → IsRefused text e → IsRefused text f → e ≡ f
+HasOneFault =
+    (text : List ℕ) (e f : HistoryFault) → e ≢ Memory → f ≢ Memory → IsRefused text e
+    → IsRefused text f → e ≡ f
 
 -- what a text means has the shapes that the type of histories keeps
 abbrev pub MeaningIsShaped : Type 0

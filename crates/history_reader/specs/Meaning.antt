@@ -129,4 +129,6 @@ abbrev pub IsRefused : List ℕ → HistoryFault → Type 0
 IsRefused text Memory = Unit {0}
 IsRefused text TooLong = longest_document < length text
 IsRefused text NotToml = (length text ≤ longest_document) × ((ms : Members) → ¬ ReadsAs text ms)
-IsRefused text (BadEntry array index name) = IsDocument text (λ ms. IsFirstFault (document_tests ms) (record { array = array; index = index; member = name }))
+IsRefused text (BadEntry array index name) =
+    IsDocument text (λ ms.
+    IsFirstFault (document_tests ms) (record { array = array; index = index; member = name }))

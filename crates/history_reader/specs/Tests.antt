@@ -13,7 +13,8 @@ use Rattle.history_reader.specs.Tree.{pairs_of, tables_at}
 use Rattle.history_reader.specs.Demands.{Meets}
 use Rattle.history_reader.specs.Rows.{Row, rows_of, entry_arrays}
 
--- a member of a document: its array, the number of its entry from 1, and its name; the document's own members are at entry 0 of `Top`
+-- a member of a document: its array, the number of its entry from 1, and its name; the document's
+-- own members are at entry 0 of `Top`
 pub record Place : Type 0 where
   pub array : Array
   pub index : ℕ
@@ -67,14 +68,16 @@ unknown_members rows ms = filter (λ m. not (is_named rows m.0)) (pairs_of ms)
 
 -- of a table: its rows in order, then its unknown members
 abbrev pub tests_by : Array → ℕ → List Row → Members → List Test
-tests_by array index rows ms = map (row_test array index ms) rows ++ map (unknown_test array index) (unknown_members rows ms)
+tests_by array index rows ms =
+    map (row_test array index ms) rows ++ map (unknown_test array index) (unknown_members rows ms)
 
 abbrev pub table_tests : Array → ℕ → Members → List Test
 table_tests array index ms = tests_by array index (rows_of array ms) ms
 
 -- of entries in order, numbered from 1
 abbrev pub entry_tests : Array → List Members → List Test
-entry_tests array tables = flat_map (λ entry. table_tests array entry.0 entry.1) (enumerate_from 1 tables)
+entry_tests array tables =
+    flat_map (λ entry. table_tests array entry.0 entry.1) (enumerate_from 1 tables)
 
 -- of all entries of an array of the document
 abbrev pub array_tests : Members → Array → List Test

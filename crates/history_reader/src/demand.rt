@@ -13,15 +13,12 @@ use schemas::{is_field_id, is_gate_name, is_group, is_kind, is_resource};
 use toml::Value;
 use toml::value::Array;
 
-/// The type and the shape of a member's value.
+/// The shape of a text.
 #[derive(Clone, Copy, Debug, PartialEq, Eq)]
-pub enum Shape {
+pub enum TextShape {
     Release,
     GateName,
     StageWord,
-    Flag,
-    /// The boolean `true` alone.
-    OnlyTrue,
     GroupName,
     VersionWord,
     ResourceName,
@@ -31,10 +28,19 @@ pub enum Shape {
     TypeWord,
     PathText,
     FormWord,
+}
+
+/// The type and the shape of a member's value.
+#[derive(Clone, Copy, Debug, PartialEq, Eq)]
+pub enum Shape {
+    Flag,
+    /// The boolean `true` alone.
+    OnlyTrue,
     /// A boolean, a whole number or a text.
     Scalar,
     /// An array of tables, also of none.
     Tables,
+    Text(TextShape),
 }
 
 /// What must stand at a member.
@@ -81,25 +87,24 @@ fn are_tables(array: &Array) -> bool
     all_tables(array.as_slice())
 }
 
-/// Whether the text is of a shape that texts have.
-fn text_has_shape(shape: Shape, text: &str) -> bool
+/// Whether the text is of the shape.
+fn text_has_shape(shape: TextShape, text: &str) -> bool
     ensures { IsTrue result ↔ TextHasShape shape text.now }
 {
     let bytes = text.as_bytes();
     match shape {
-        Shape::Release => is_release(bytes),
-        Shape::GateName => is_gate_name(bytes),
-        Shape::StageWord => is_stage(bytes),
-        Shape::GroupName => is_group(bytes),
-        Shape::VersionWord => is_version(bytes),
-        Shape::ResourceName => is_resource(bytes),
-        Shape::KindName => is_kind(bytes),
-        Shape::EventWord => is_event(text),
-        Shape::FieldId => is_field_id(bytes),
-        Shape::TypeWord => type_named(text).is_some(),
-        Shape::PathText => is_path_text(text),
-        Shape::FormWord => form_named(text).is_some(),
-        Shape::Flag | Shape::OnlyTrue | Shape::Scalar | Shape::Tables => false,
+        TextShape::Release => is_release(bytes),
+        TextShape::GateName => is_gate_name(bytes),
+        TextShape::StageWord => is_stage(bytes),
+        TextShape::GroupName => is_group(bytes),
+        TextShape::VersionWord => is_version(bytes),
+        TextShape::ResourceName => is_resource(bytes),
+        TextShape::KindName => is_kind(bytes),
+        TextShape::EventWord => is_event(text),
+        TextShape::FieldId => is_field_id(bytes),
+        TextShape::TypeWord => type_named(text).is_some(),
+        TextShape::PathText => is_path_text(text),
+        TextShape::FormWord => form_named(text).is_some(),
     }
 }
 
@@ -115,7 +120,7 @@ pub fn has_shape(shape: Shape, value: &Value) -> bool
             Some(array) => are_tables(array),
             None => false,
         },
-        _ => match value.as_str() {
+        Shape::Text(shape) => match value.as_str() {
             Some(text) => text_has_shape(shape, text),
             None => false,
         },

@@ -3,10 +3,9 @@ ghost use Rattle.std.specs.Prelude.{◌≡◌, ◌⊎◌, IfOk, IfErr, IfSome};
 ghost use Rattle.std.specs.List.{AllByRecursion};
 ghost use Rattle.toml.specs.View.{table_view};
 ghost use Rattle.toml.specs.Data.{get_member};
-ghost use Rattle.history_reader.specs.declared.demand.Shape.{Shape as TheShape};
 ghost use Rattle.schemas.specs.Shapes.{IsMinor};
 ghost use Rattle.history_reader.specs.Names.{member_name};
-ghost use Rattle.history_reader.specs.Demands.{HasShape};
+ghost use Rattle.history_reader.specs.Demands.{IsReleaseText};
 ghost use Rattle.history_reader.specs.Tests.{Passes, document_tests};
 ghost use Rattle.history_reader.specs.Meaning.{HoldsRelease, IsHistory, MeansHistory, IsRefused};
 ghost use Rattle.history_reader.specs.declared.read.HistoryFault.TheVariants.{Memory as NoMemory, BadEntry};
@@ -69,7 +68,7 @@ impl Error for HistoryFault {}
 
 /// The release of a member that is missing or holds its text.
 fn optional_release(table: &Table, member: Member) -> Option<Minor>
-    requires { IfSome (get_member (member_name member) (table_view table.now)) (HasShape TheShape.Release) }
+    requires { IfSome (get_member (member_name member) (table_view table.now)) IsReleaseText }
     ensures held { HoldsRelease (member_name member) (table_view table.now) result }
     ensures shaped { IfSome result IsMinor }
 {
@@ -102,7 +101,8 @@ fn history_of(alloc: Global, table: &Table) -> Result<History, Memory>
 
 /// The fault as it is told, or want of memory.
 fn told(alloc: Global, fault: &Fault<'_>) -> HistoryFault
-    ensures { (result ≡ NoMemory) ⊎ (result ≡ BadEntry fault.now.array fault.now.index fault.now.member.now) }
+    ensures { (result ≡ NoMemory)
+        ⊎ (result ≡ BadEntry fault.now.array fault.now.index fault.now.member.now) }
 {
     match Text::from_str(alloc, fault.member) {
         Ok(member) => HistoryFault::BadEntry {

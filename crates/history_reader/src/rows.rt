@@ -4,7 +4,11 @@ ghost use Rattle.toml.specs.View.{table_view};
 ghost use Rattle.history_reader.specs.Rows.{top_rows, gate_rows, api_rows, field_rows, spell_rows, rows_of};
 
 use crate::demand::Demand::{self, Optional, Required};
-use crate::demand::Shape;
+use crate::demand::Shape::{self, Text};
+use crate::demand::TextShape::{
+    EventWord, FieldId, FormWord, GateName, GroupName, KindName, PathText, Release, ResourceName,
+    StageWord, TypeWord, VersionWord,
+};
 use crate::member::Member;
 use crate::tree::{text_member, value_of};
 use schemas::Array;
@@ -20,8 +24,8 @@ fn document_rows() -> &'static [Row]
     ensures { result.now ≡ top_rows }
 {
     &[
-        (Member::First, Optional(Shape::Release)),
-        (Member::Last, Optional(Shape::Release)),
+        (Member::First, Optional(Text(Release))),
+        (Member::Last, Optional(Text(Release))),
         (Member::Gate, Optional(Shape::Tables)),
         (Member::Api, Optional(Shape::Tables)),
         (Member::Field, Optional(Shape::Tables)),
@@ -34,14 +38,14 @@ fn rows_of_gate(table: &Table) -> &'static [Row]
 {
     match value_of(table, Member::Removed) {
         Some(_) => &[
-            (Member::Name, Required(Shape::GateName)),
-            (Member::Since, Required(Shape::Release)),
+            (Member::Name, Required(Text(GateName))),
+            (Member::Since, Required(Text(Release))),
             (Member::Removed, Required(Shape::OnlyTrue)),
         ],
         None => &[
-            (Member::Name, Required(Shape::GateName)),
-            (Member::Since, Required(Shape::Release)),
-            (Member::Stage, Required(Shape::StageWord)),
+            (Member::Name, Required(Text(GateName))),
+            (Member::Since, Required(Text(Release))),
+            (Member::Stage, Required(Text(StageWord))),
             (Member::Default, Required(Shape::Flag)),
             (Member::Locked, Optional(Shape::Flag)),
         ],
@@ -53,31 +57,31 @@ fn rows_of_api(table: &Table) -> &'static [Row]
 {
     match text_member(table, Member::Event) {
         Some("introduced") => &[
-            (Member::Group, Required(Shape::GroupName)),
-            (Member::Version, Required(Shape::VersionWord)),
-            (Member::Resource, Required(Shape::ResourceName)),
-            (Member::Since, Required(Shape::Release)),
-            (Member::Event, Required(Shape::EventWord)),
-            (Member::Kind, Required(Shape::KindName)),
-            (Member::Singular, Required(Shape::ResourceName)),
+            (Member::Group, Required(Text(GroupName))),
+            (Member::Version, Required(Text(VersionWord))),
+            (Member::Resource, Required(Text(ResourceName))),
+            (Member::Since, Required(Text(Release))),
+            (Member::Event, Required(Text(EventWord))),
+            (Member::Kind, Required(Text(KindName))),
+            (Member::Singular, Required(Text(ResourceName))),
             (Member::Namespaced, Required(Shape::Flag)),
             (Member::Enabled, Required(Shape::Flag)),
         ],
         Some("deprecated") => &[
-            (Member::Group, Required(Shape::GroupName)),
-            (Member::Version, Required(Shape::VersionWord)),
-            (Member::Resource, Required(Shape::ResourceName)),
-            (Member::Since, Required(Shape::Release)),
-            (Member::Event, Required(Shape::EventWord)),
-            (Member::Removal, Required(Shape::Release)),
-            (Member::Replacement, Required(Shape::VersionWord)),
+            (Member::Group, Required(Text(GroupName))),
+            (Member::Version, Required(Text(VersionWord))),
+            (Member::Resource, Required(Text(ResourceName))),
+            (Member::Since, Required(Text(Release))),
+            (Member::Event, Required(Text(EventWord))),
+            (Member::Removal, Required(Text(Release))),
+            (Member::Replacement, Required(Text(VersionWord))),
         ],
         _ => &[
-            (Member::Group, Required(Shape::GroupName)),
-            (Member::Version, Required(Shape::VersionWord)),
-            (Member::Resource, Required(Shape::ResourceName)),
-            (Member::Since, Required(Shape::Release)),
-            (Member::Event, Required(Shape::EventWord)),
+            (Member::Group, Required(Text(GroupName))),
+            (Member::Version, Required(Text(VersionWord))),
+            (Member::Resource, Required(Text(ResourceName))),
+            (Member::Since, Required(Text(Release))),
+            (Member::Event, Required(Text(EventWord))),
         ],
     }
 }
@@ -86,13 +90,13 @@ fn rows_of_field() -> &'static [Row]
     ensures { result.now ≡ field_rows }
 {
     &[
-        (Member::Group, Required(Shape::GroupName)),
-        (Member::Resource, Required(Shape::ResourceName)),
-        (Member::Id, Required(Shape::FieldId)),
-        (Member::Since, Required(Shape::Release)),
-        (Member::FieldType, Required(Shape::TypeWord)),
+        (Member::Group, Required(Text(GroupName))),
+        (Member::Resource, Required(Text(ResourceName))),
+        (Member::Id, Required(Text(FieldId))),
+        (Member::Since, Required(Text(Release))),
+        (Member::FieldType, Required(Text(TypeWord))),
         (Member::Required, Optional(Shape::Flag)),
-        (Member::Gate, Optional(Shape::GateName)),
+        (Member::Gate, Optional(Text(GateName))),
     ]
 }
 
@@ -100,13 +104,13 @@ fn rows_of_spell() -> &'static [Row]
     ensures { result.now ≡ spell_rows }
 {
     &[
-        (Member::Group, Required(Shape::GroupName)),
-        (Member::Resource, Required(Shape::ResourceName)),
-        (Member::Version, Required(Shape::VersionWord)),
-        (Member::Field, Required(Shape::FieldId)),
-        (Member::Since, Required(Shape::Release)),
-        (Member::Path, Required(Shape::PathText)),
-        (Member::Form, Optional(Shape::FormWord)),
+        (Member::Group, Required(Text(GroupName))),
+        (Member::Resource, Required(Text(ResourceName))),
+        (Member::Version, Required(Text(VersionWord))),
+        (Member::Field, Required(Text(FieldId))),
+        (Member::Since, Required(Text(Release))),
+        (Member::Path, Required(Text(PathText))),
+        (Member::Form, Optional(Text(FormWord))),
         (Member::Default, Optional(Shape::Scalar)),
     ]
 }

@@ -17,10 +17,21 @@ IsEvent Removal change = IsRemoval change
 IsEvent Forgetting change = IsForgetting change
 
 -- the map has each version's earliest date of such an event
-abbrev pub HasEarliest : Event → List ApiEntry → BTreeMap (Bor (List ℕ) × Bor (List ℕ) × Bor (List ℕ)) ℕ → Type 0
-HasEarliest event entries dates = (group version resource : List ℕ) (e : ℕ) → IsSomeAnd (value_at dates group version resource) (λ date. date ≤ e) ↔ Any (λ x. IsKnownOf (name_of group version resource) e x × IsEvent event x.change) entries
+abbrev pub HasEarliest :
+    Event → List ApiEntry → BTreeMap (Bor (List ℕ) × Bor (List ℕ) × Bor (List ℕ)) ℕ → Type 0
+HasEarliest event entries dates =
+    (group version resource : List ℕ) (e : ℕ)
+    → IsSomeAnd (value_at dates group version resource) (λ date. date ≤ e)
+    ↔ Any (λ x. IsKnownOf (name_of group version resource) e x × IsEvent event x.change) entries
 
 -- the map gets the entry's date where it has no earlier one for the entry's version
-abbrev pub PutsEarlier : ApiEntry → BTreeMap (Bor (List ℕ) × Bor (List ℕ) × Bor (List ℕ)) ℕ → BTreeMap (Bor (List ℕ) × Bor (List ℕ) × Bor (List ℕ)) ℕ → Type 0
-PutsEarlier x old new = (date : ℕ) × ((e : ℕ) → (date ≤ e) ↔ (IsSomeAnd (value_at old x.group x.version x.resource) (λ d. d ≤ e) ⊎ (x.since ≤ e)))
-    × ((group version resource : List ℕ) → value_at new group version resource ≡ cond (is_same_name x.group x.version x.resource group version resource) (Some date) (value_at old group version resource))
+abbrev pub PutsEarlier :
+    ApiEntry → BTreeMap (Bor (List ℕ) × Bor (List ℕ) × Bor (List ℕ)) ℕ
+    → BTreeMap (Bor (List ℕ) × Bor (List ℕ) × Bor (List ℕ)) ℕ → Type 0
+PutsEarlier x old new =
+    (date : ℕ)
+    × ((e : ℕ) → (date ≤ e)
+    ↔ (IsSomeAnd (value_at old x.group x.version x.resource) (λ d. d ≤ e) ⊎ (x.since ≤ e)))
+    × ((group version resource : List ℕ) → value_at new group version resource
+    ≡ cond (is_same_name x.group x.version x.resource group version resource)
+    (Some date) (value_at old group version resource))

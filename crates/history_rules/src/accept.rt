@@ -68,9 +68,7 @@ fn first_late_entry(last: Minor, h: &History) -> Option<Broken>
 fn first_gate_fault(alloc: Global, gates: &[GateEntry]) -> Result<Option<Broken>, Memory>
     ensures { IfOk result (λ found. (h : Dated) → h.gates ≡ gates.now → FindsFault h gate_checks found) }
 {
-    let Ok(previous) = link_gates(alloc, gates) else {
-        return Err(Memory);
-    };
+    let previous = link_gates(alloc, gates)?;
     if let Some(index) = first_not_rising(gates, &previous) {
         return Ok(broken(3, Array::Gate, index));
     }
@@ -87,12 +85,8 @@ fn first_gate_fault(alloc: Global, gates: &[GateEntry]) -> Result<Option<Broken>
 fn first_api_fault(alloc: Global, last: Minor, apis: &[ApiEntry]) -> Result<Option<Broken>, Memory>
     ensures { IfOk result (λ found. (h : Dated) → last_of h ≡ last → h.apis ≡ apis.now → FindsFault h api_checks found) }
 {
-    let Ok(previous) = link_versions(alloc, apis) else {
-        return Err(Memory);
-    };
-    let Ok(all) = Dates::new(alloc, apis) else {
-        return Err(Memory);
-    };
+    let previous = link_versions(alloc, apis)?;
+    let all = Dates::new(alloc, apis)?;
     if let Some(index) = first_out_of_order(apis, &previous) {
         return Ok(broken(6, Array::Api, index));
     }

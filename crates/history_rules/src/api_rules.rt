@@ -79,7 +79,8 @@ fn has_lawful_name(entry: &ApiEntry) -> bool
 }
 
 fn names_its_kind<'a>(kinds: &Kinds<'a>, entry: &'a ApiEntry) -> bool
-    ensures { (earlier : List TheEntry) → AreKindsOf earlier kinds.now → IsTrue result ↔ NamesItsKind earlier entry.now }
+    ensures { (earlier : List TheEntry) → AreKindsOf earlier kinds.now
+        → IsTrue result ↔ NamesItsKind earlier entry.now }
 {
     has_lawful_name(entry) && kinds.are_apart_from(entry)
 }
@@ -214,7 +215,8 @@ fn is_kept<'a>(
     previous: Option<&'a ApiEntry>,
     entry: &'a ApiEntry,
 ) -> bool
-    ensures { IsTrue result ↔ IsKept all.now last (option_copied previous.entry) entry.now entry.now.change }
+    ensures { IsTrue result
+        ↔ IsKept all.now last (option_copied previous.entry) entry.now entry.now.change }
 {
     match &entry.change {
         ApiChange::Deprecated { removal, .. } => {
@@ -282,7 +284,8 @@ pub fn first_early_forgetting<'a>(
 }
 
 fn forgets_late<'a>(all: &Dates<'a>, previous: Option<&'a ApiEntry>, entry: &'a ApiEntry) -> bool
-    ensures { IsTrue result ↔ IsForgottenLate all.now (option_copied previous.entry) entry.now entry.now.change }
+    ensures { IsTrue result
+        ↔ IsForgottenLate all.now (option_copied previous.entry) entry.now entry.now.change }
 {
     match &entry.change {
         ApiChange::Forgotten => is_late(previous, entry) && all.are_followers_forgotten(entry),

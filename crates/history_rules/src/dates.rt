@@ -35,7 +35,8 @@ impl Event {
 
     /// Takes the entry into the map of this event's earliest dates.
     fn take_in<'a>(self, dates: &mut NameMap<'a, Minor>, entry: &'a ApiEntry) -> Result<(), Memory>
-        ensures { OnOk result ((entries : List TheEntry) → HasEarliest self entries dates.old → HasEarliest self (entries ++ entry.now ∷ []) dates.new) }
+        ensures { OnOk result ((entries : List TheEntry) → HasEarliest self entries dates.old
+            → HasEarliest self (entries ++ entry.now ∷ []) dates.new) }
     {
         if self.is_of(&entry.change) {
             put_earlier(dates, entry)

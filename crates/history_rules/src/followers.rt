@@ -17,7 +17,8 @@ pub type Followers<'a> = NameMap<'a, Option<Minor>>;
 
 /// The later of the date and a date that may be there already, where neither is missing.
 fn later(known: Option<Option<Minor>>, date: Option<Minor>) -> Option<Minor>
-    ensures { (e : ℕ) → IsSomeAnd result (λ d. d ≤ e) ↔ (IfSome known (λ k. IsSomeAnd k (λ d. d ≤ e)) × IsSomeAnd date (λ d. d ≤ e)) }
+    ensures { (e : ℕ)
+        → IsSomeAnd result (λ d. d ≤ e) ↔ (IfSome known (λ k. IsSomeAnd k (λ d. d ≤ e)) × IsSomeAnd date (λ d. d ≤ e)) }
 {
     match (known, date) {
         (None, date) => date,
@@ -43,7 +44,8 @@ fn put_later<'a>(
 
 /// When the entry's version is forgotten.
 fn forgotten_in<'a>(forgotten: &NameMap<'a, Minor>, entry: &'a ApiEntry) -> Option<Minor>
-    ensures { (all : List TheEntry) (e : ℕ) → HasEarliest Event.Forgetting all forgotten.now → IsSomeAnd result (λ d. d ≤ e) ↔ IsForgotten all (name_of entry.now.group entry.now.version entry.now.resource) e }
+    ensures { (all : List TheEntry) (e : ℕ) → HasEarliest Event.Forgetting all forgotten.now
+        → IsSomeAnd result (λ d. d ≤ e) ↔ IsForgotten all (name_of entry.now.group entry.now.version entry.now.resource) e }
 {
     let group = entry.group.bytes();
     let version = entry.version.bytes();
@@ -56,7 +58,9 @@ fn take_in<'a>(
     forgotten: &NameMap<'a, Minor>,
     entry: &'a ApiEntry,
 ) -> Result<(), Memory>
-    ensures { OnOk result ((all entries : List TheEntry) → HasEarliest Event.Forgetting all forgotten.now → HasFollowers all entries followers.old → HasFollowers all (entries ++ entry.now ∷ []) followers.new) }
+    ensures { OnOk result ((all entries : List TheEntry) → HasEarliest Event.Forgetting all forgotten.now
+        → HasFollowers all entries followers.old
+        → HasFollowers all (entries ++ entry.now ∷ []) followers.new) }
 {
     match &entry.change {
         ApiChange::Deprecated { replacement, .. } => {

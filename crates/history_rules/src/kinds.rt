@@ -97,7 +97,8 @@ impl<'a> Kinds<'a> {
     }
 
     fn agree_with(&self, entry: &'a ApiEntry) -> bool
-        ensures { IsTrue result ↔ IfSome (option_copied (value_at self.now.changes entry.now.group entry.now.resource [])) (λ y. AgreeInKind entry.now.change y) }
+        ensures { IsTrue result
+            ↔ IfSome (option_copied (value_at self.now.changes entry.now.group entry.now.resource [])) (λ y. AgreeInKind entry.now.change y) }
     {
         let group = entry.group.bytes();
         let resource = entry.resource.bytes();
@@ -105,7 +106,8 @@ impl<'a> Kinds<'a> {
     }
 
     fn have_only(&self, entry: &'a ApiEntry, kind: &'a Text) -> bool
-        ensures { IsTrue result ↔ IfSome (option_copied (value_at self.now.resources entry.now.group kind.now [])) (λ r. r ≡ entry.now.resource) }
+        ensures { IsTrue result
+            ↔ IfSome (option_copied (value_at self.now.resources entry.now.group kind.now [])) (λ r. r ≡ entry.now.resource) }
     {
         let group = entry.group.bytes();
         let kind = kind.bytes();
@@ -117,7 +119,8 @@ impl<'a> Kinds<'a> {
 
     /// Whether the entry keeps its kind apart from those of the entries.
     pub fn are_apart_from(&self, entry: &'a ApiEntry) -> bool
-        ensures { (entries : List TheEntry) → AreKindsOf entries self.now → IsTrue result ↔ All (KeepKindsApart entry.now) entries }
+        ensures { (entries : List TheEntry) → AreKindsOf entries self.now
+            → IsTrue result ↔ All (KeepKindsApart entry.now) entries }
     {
         match &entry.change {
             ApiChange::Introduced { kind, .. } => {
@@ -129,7 +132,9 @@ impl<'a> Kinds<'a> {
 
     /// Takes in one more entry, which keeps its kind apart.
     pub fn take_in(&mut self, entry: &'a ApiEntry) -> Result<(), Memory>
-        ensures { OnOk result ((entries : List TheEntry) → AreKindsOf entries self.old → All (KeepKindsApart entry.now) entries → AreKindsOf (entries ++ entry.now ∷ []) self.new) }
+        ensures { OnOk result ((entries : List TheEntry) → AreKindsOf entries self.old
+            → All (KeepKindsApart entry.now) entries
+            → AreKindsOf (entries ++ entry.now ∷ []) self.new) }
     {
         let ApiChange::Introduced { kind, .. } = &entry.change else {
             return Ok(());

@@ -26,6 +26,7 @@ use Rattle.schemas.specs.Dated.{Dated, IsShaped}
 use Rattle.schemas.specs.GateRules.{IsFitSpec}
 use Rattle.schemas.specs.Rules.{IsAccepted}
 use Rattle.schemas.specs.Shapes.{IsGateName, IsShapedGate}
+use Rattle.schemas.proofs.AcceptedLemmas as hr
 use Rattle.schemas.proofs.LawLemmas.{gates_rise}
 use Rattle.release_view.specs.Gates.{IsRowOf, AreGatesOf}
 use Rattle.release_view.proofs.ListLemmas.{found, witness}
@@ -42,7 +43,7 @@ module _ (h : Dated) (shaped : IsShaped h) (accepted : IsAccepted h) (e : ℕ) (
   tables = cutoff h.gates e
 
   fits : All (λ x. IsFitSpec x.change) tables
-  fits = All-filter (λ x. nat_le x.since e) (λ x. IsFitSpec x.change) h.gates (λ k d below. accepted.gates_fit_stages k (get_or h.gates k d) (slice_get-get_or h.gates k d below))
+  fits = All-filter (λ x. nat_le x.since e) (λ x. IsFitSpec x.change) h.gates (λ k d below. (hr.gates_fit_stages h accepted) k (get_or h.gates k d) (slice_get-get_or h.gates k d below))
 
   names : All (λ x. IsGateName x.name) tables
   names = All-filter (λ x. nat_le x.since e) (λ x. IsGateName x.name) h.gates

@@ -19,6 +19,7 @@ use Rattle.schemas.specs.ApiRules.{IsForgetting, IsNext, previous_of_version, is
 use Rattle.schemas.specs.Dated.{Dated}
 use Rattle.schemas.specs.Rules.{IsAccepted}
 use Rattle.schemas.specs.Shapes.{IsShapedApi}
+use Rattle.schemas.proofs.AcceptedLemmas as hr
 use Rattle.schemas.proofs.PreviousLemmas.{IsLastBefore, IsLast, last_passing_is}
 use Rattle.release_view.specs.Known.{name_of, tables_at, AreKnown}
 use Rattle.release_view.specs.Parts.{IsGathered, Speaks}
@@ -52,7 +53,7 @@ module _ (h : Dated) (accepted : IsAccepted h) (e : ℕ) (name : GroupVersionRes
       let known : IsKnownOf name e x = any.4.0 in
       let within = any.2 in
       let stands : slice_get h.apis any.0 ≡ Some x = slice_get_read h.apis (length h.apis) any.0 x refl any.2 (sym any.3) in
-      let (y, is, removal, before) = removed_before (previous_of_version (take any.0 h.apis) x) x.since x.change any.4.1 (accepted.versions_in_order any.0 x stands) in
+      let (y, is, removal, before) = removed_before (previous_of_version (take any.0 h.apis) x) x.since x.change any.4.1 ((hr.versions_in_order h accepted) any.0 x stands) in
       let last : IsLastBefore (is_of_version x) h.apis any.0 y = subst (IsLast (is_of_version x) h.apis any.0) is (last_passing_is (is_of_version x) h.apis any.0 (omega arith)) in
       let (group, version, resource) = same_parts x y last.passes in
       let dated : x.since ≤ e = known.dated in

@@ -8,6 +8,7 @@ use Rattle.basis.proofs.FilterLemmas.{Contains-from_filter}
 use Rattle.fields.specs.declared.field.Field.{Field}
 use Rattle.fields.specs.declared.field.Spell.{Spell}
 use Rattle.schemas.specs.Cutoff.{fields_by, spells_by}
+use Rattle.schemas.proofs.AcceptedLemmas as hr
 use Rattle.schemas.specs.Dated.{Dated}
 use Rattle.schemas.specs.FieldRules.{AreOneField}
 use Rattle.schemas.specs.Pairs.{AreOfOnePair}
@@ -39,9 +40,9 @@ one_entry {E} R xs each x y at_x at_y one two =
     ]
 
 pub fields_once : (h : Dated) (e : ℕ) → IsAccepted h → AreFieldsOnce (fields_by h.fields e)
-fields_once h e lawful = λ (f g : Field) in_f in_g (same : AreOneField f g). one_entry AreOneField h.fields (λ k x at. (lawful.fields_belong k x at).once) f g (Contains-from_filter _ h.fields f in_f) (Contains-from_filter _ h.fields g in_g) same
+fields_once h e lawful = λ (f g : Field) in_f in_g (same : AreOneField f g). one_entry AreOneField h.fields (λ k x at. ((hr.fields_belong h lawful) k x at).once) f g (Contains-from_filter _ h.fields f in_f) (Contains-from_filter _ h.fields g in_g) same
     (record { group = sym same.group; resource = sym same.resource; id = sym same.id })
 
 pub spells_once : (h : Dated) (e : ℕ) → IsAccepted h → AreSpellsOnce (spells_by h.spells e)
-spells_once h e lawful = λ (s t : Spell) in_s in_t (same : AreOfOnePair s t). one_entry AreOfOnePair h.spells (λ k x at. (lawful.spelled_once k x at).single) s t (Contains-from_filter _ h.spells s in_s) (Contains-from_filter _ h.spells t in_t) same
+spells_once h e lawful = λ (s t : Spell) in_s in_t (same : AreOfOnePair s t). one_entry AreOfOnePair h.spells (λ k x at. ((hr.spelled_once h lawful) k x at).single) s t (Contains-from_filter _ h.spells s in_s) (Contains-from_filter _ h.spells t in_t) same
     (record { group = sym same.0.group; version = sym same.0.version; resource = sym same.0.resource }, sym same.1)

@@ -18,6 +18,7 @@ use Rattle.schemas.specs.ApiRules.{is_of_version, previous_of_version, name_of, 
 use Rattle.schemas.specs.Dated.{Dated}
 use Rattle.schemas.specs.Places.{Each}
 use Rattle.schemas.specs.Rules.{IsAccepted}
+use Rattle.schemas.proofs.AcceptedLemmas as hr
 use Rattle.schemas.proofs.DecodableLemmas.{decodable_dated}
 use Rattle.schemas.proofs.LawLemmas.{any_stands, introduced_later, introduced_once}
 use Rattle.schemas.proofs.PlaceLemmas.{some_injective}
@@ -150,7 +151,7 @@ pairs_kept h once = record {
 }
 
 pairs_of : (h : Dated) → IsAccepted h → ArePairsKept h
-pairs_of h lawful = record { of_fields = lawful.spelled_throughout; of_spellings = lawful.spelled_once }
+pairs_of h lawful = record { of_fields = (hr.spelled_throughout h lawful); of_spellings = (hr.spelled_once h lawful) }
 
 -- HR15: paths are apart both ways
 pub turned : (p q : List (List ℕ)) → AreApart p q → AreApart q p
@@ -160,12 +161,12 @@ pub paths_apart : (h : Dated) → IsAccepted h → PathsAreApart h.spells
 paths_apart h lawful = λ (i j : ℕ) (s t : Spell) (less : i < j) (at_i : slice_get h.spells i ≡ Some s) (at_j : slice_get h.spells j ≡ Some t) (one : AreForOneVersion s t).
     let within : j < length h.spells = slice_get_within h.spells j t at_j in
     let bound : j ≤ length h.spells = omega arith in
-    turned t.path s.path (earlier_at (λ u. AreForOneVersion t u → AreApart t.path u.path) h.spells i j s less bound at_i (lawful.paths_apart j t at_j).apart (record { group = sym one.group; version = sym one.version; resource = sym one.resource }))
+    turned t.path s.path (earlier_at (λ u. AreForOneVersion t u → AreApart t.path u.path) h.spells i j s less bound at_i ((hr.paths_apart h lawful) j t at_j).apart (record { group = sym one.group; version = sym one.version; resource = sym one.resource }))
 
 -- the field of a spelling and the introduction of its version are those that it names
 pub one_field : (h : Dated) → IsAccepted h → (i j : ℕ) (f g : Field) → slice_get h.fields i ≡ Some f → slice_get h.fields j ≡ Some g → AreOneField f g → AreOneField g f → f ≡ g
 one_field h lawful i j f g at_i at_j one two =
-    let same : i ≡ j = one_place AreOneField h.fields (λ k x stands. (lawful.fields_belong k x stands).once) i j f g at_i at_j one two in
+    let same : i ≡ j = one_place AreOneField h.fields (λ k x stands. ((hr.fields_belong h lawful) k x stands).once) i j f g at_i at_j one two in
     some_injective f g (sym at_i ∙ subst (λ (k : ℕ). slice_get h.fields k ≡ Some g) (sym same) at_j)
 
 one_introduction : (h : Dated) → IsIntroducedOnce h → (i j : ℕ) (x y : ApiEntry) → slice_get h.apis i ≡ Some x → slice_get h.apis j ≡ Some y → subject x ≡ subject y → IsIntroduction x.change → IsIntroduction y.change → x ≡ y
@@ -192,7 +193,7 @@ forgotten_later apis name m e later = Any-weaker (λ x. IsKnownOf name m x × Is
 dated_by : (h : Dated) → IsAccepted h → (i j k e : ℕ) (f : Field) (x : ApiEntry) (s : Spell) → slice_get h.fields i ≡ Some f → slice_get h.apis j ≡ Some x → slice_get h.spells k ≡ Some s → IsIntroduction x.change → IsSpelling f (subject x) s → f.since ≤ e → x.since ≤ e → s.since ≤ e
 dated_by h lawful i j k e f x s at_i at_j at_k is spelling field_by version_by =
     let Q : Field → Type 0 = λ g. IsOfField g s × Any (SpellsPair h.apis g s) h.apis in
-    let paired : Any Q h.fields = (lawful.spelled_once k s at_k).paired in
+    let paired : Any Q h.fields = ((hr.spelled_once h lawful) k s at_k).paired in
     let of : IsOfField paired.1 s = paired.4.0 in
     let entry : Any (SpellsPair h.apis paired.1 s) h.apis = paired.4.1 in
     let spells : SpellsPair h.apis paired.1 s entry.1 = entry.4 in

@@ -1,5 +1,5 @@
 -- A history is accepted exactly where no entry breaks a rule.
-use Rattle.std.proofs.Common.{ℕ, zero, suc, ◌≡◌, ◌+◌, ◌<◌, ◌≤◌, List, [], ◌∷◌, true, false, Option, Some, None, take, refl, sym, ap, subst, ◌∙◌}
+use Rattle.std.proofs.Common.{ℕ, zero, suc, ◌≡◌, ◌+◌, ◌<◌, ◌≤◌, List, [], ◌∷◌, ◌++◌, true, false, Option, Some, None, take, refl, sym, ap, subst, ◌∙◌}
 use Rattle.std.specs.Prelude.{slice_get, IsSomeAnd, IfSome}
 use Rattle.std.specs.List.{AllByRecursion}
 use Rattle.gate_spec.specs.declared.entry.GateEntry.{GateEntry}
@@ -23,7 +23,7 @@ use Rattle.schemas.specs.ApiRules.{IsDeprecation, IsNext, AgreeInKind, DifferInK
 use Rattle.schemas.specs.FieldRules.{BelongsToResource, IsRequiredFairly, HasKnownGate, IsSpelledThroughout}
 use Rattle.schemas.specs.SpellRules.{SpellsPairOnce, HasOwnPath, FitsType, FitsField}
 use Rattle.schemas.specs.Pairs.{IsOfField}
-use Rattle.schemas.specs.Rules.{IsGateBy, IsApiBy, IsFieldBy, IsSpellBy, IsAccepted, IsUnbroken, checks, first_of, last_of}
+use Rattle.schemas.specs.Rules.{IsGateBy, IsApiBy, IsFieldBy, IsSpellBy, Check, AllHold, IsAccepted, IsUnbroken, release_check, date_checks, gate_checks, api_checks, field_checks, checks, first_of, last_of}
 use Rattle.schemas.proofs.FieldStabilityLemmas.{belongs_stable, always_stable, gate_stable, spelled_stable, paired_stable, path_stable, fit_stable}
 use Rattle.schemas.proofs.PlaceLemmas.{unbroken}
 use Rattle.schemas.proofs.DecisionLemmas.{IsStable, stable_decided, stable_both, stable_not, stable_to, stable_all, stable_holds, stable_fails, stable_less, stable_at_most, stable_same, stable_bytes, stable_bool, introduced_decided, removed_decided, forgotten_decided}
@@ -176,29 +176,100 @@ shaped_at [] shaped i x stands = absurd (let e : None ≡ Some x = stands in cc)
 shaped_at (y ∷ ys) shaped zero x stands = subst IsShapedApi (let e : Some y ≡ Some x = stands in cc) shaped.0
 shaped_at (y ∷ ys) shaped (suc i) x stands = shaped_at ys shaped.1 i x stands
 
-pub accepted_unbroken : (h : Dated) → IsAccepted h → IsUnbroken h checks
-accepted_unbroken h a = ((λ n top. top.1 a.releases), (unbroken _ h.gates a.gates_by_last, (unbroken _ h.apis a.apis_by_last, (unbroken _ h.fields a.fields_by_last, (unbroken _ h.spells a.spells_by_last, (unbroken _ h.gates a.gates_rise, (unbroken _ h.gates a.gates_fit_stages, (unbroken _ h.gates a.gates_end_locked, (unbroken _ h.apis a.versions_in_order, (unbroken _ h.apis a.kinds_apart, (unbroken _ h.apis a.deprecations_fair, (unbroken _ h.apis a.removals_planned, (unbroken _ h.apis a.forgettings_late, (unbroken _ h.fields a.fields_belong, (unbroken _ h.fields a.required_fairly, (unbroken _ h.fields a.guards_known, (unbroken _ h.fields a.spelled_throughout, (unbroken _ h.spells a.spelled_once, (unbroken _ h.spells a.paths_apart, (unbroken _ h.spells a.types_fit, tt))))))))))))))))))))
+-- ---- each test holds exactly where no entry breaks it
 
-pub unbroken_accepted : (h : Dated) → IsShaped h → IsUnbroken h checks → IsAccepted h
-unbroken_accepted h shaped u = record {
-  releases = releases_stable h.first h.last (λ no. u.0 0 (refl, no));
-  gates_by_last = each_keeps (IsGateBy (last_of h)) h.gates (λ i x s. stable_at_most x.since (last_of h)) u.1.0;
-  apis_by_last = each_keeps (IsApiBy (last_of h)) h.apis (λ i x s. stable_at_most x.since (last_of h)) u.1.1.0;
-  fields_by_last = each_keeps (IsFieldBy (last_of h)) h.fields (λ i x s. stable_at_most x.since (last_of h)) u.1.1.1.0;
-  spells_by_last = each_keeps (IsSpellBy (last_of h)) h.spells (λ i x s. stable_at_most x.since (last_of h)) u.1.1.1.1.0;
-  gates_rise = each_keeps RisesInGate h.gates (λ i x s. rises_stable _ x.since) u.1.1.1.1.1.0;
-  gates_fit_stages = each_keeps FitsStage h.gates (λ i x s. fits_stable x.change) u.1.1.1.1.1.1.0;
-  gates_end_locked = each_keeps FollowsLockedSpec h.gates (λ i x s. ripe_stable _ x.since x.change) u.1.1.1.1.1.1.1.0;
-  versions_in_order = each_keeps StandsInOrder h.apis (λ i x s. next_stable _ x.since x.change) u.1.1.1.1.1.1.1.1.0;
-  kinds_apart = each_keeps NamesItsKind h.apis (λ i x s. stable_both (name_stable x) (stable_all (KeepKindsApart x) (take i h.apis) (λ y. apart_stable x y))) u.1.1.1.1.1.1.1.1.1.0;
-  deprecations_fair = each_keeps (DeprecatesFairly h.apis) h.apis (λ i x s. let shape = shaped_at h.apis shaped.apis i x s in fair_stable h.apis x x.change shape.version shape.change) u.1.1.1.1.1.1.1.1.1.1.0;
-  removals_planned = each_keeps (KeepsPlan h.apis (last_of h)) h.apis (λ i x s. kept_stable h.apis (last_of h) _ x x.change) u.1.1.1.1.1.1.1.1.1.1.1.0;
-  forgettings_late = each_keeps (ForgetsLate h.apis) h.apis (λ i x s. forgotten_stable h.apis _ x x.change) u.1.1.1.1.1.1.1.1.1.1.1.1.0;
-  fields_belong = each_keeps (BelongsToResource (first_of h) h.apis) h.fields (λ i x s. belongs_stable (first_of h) h.apis (take i h.fields) x) u.1.1.1.1.1.1.1.1.1.1.1.1.1.0;
-  required_fairly = each_keeps (IsRequiredFairly h.apis) h.fields (λ i x s. stable_to (always_stable h.apis x)) u.1.1.1.1.1.1.1.1.1.1.1.1.1.1.0;
-  guards_known = each_keeps (HasKnownGate (first_of h) h.gates) h.fields (λ i x s. gate_stable (first_of h) h.gates x x.gate) u.1.1.1.1.1.1.1.1.1.1.1.1.1.1.1.0;
-  spelled_throughout = each_keeps (IsSpelledThroughout h.apis h.spells) h.fields (λ i x s. spelled_stable h.apis h.spells x) u.1.1.1.1.1.1.1.1.1.1.1.1.1.1.1.1.0;
-  spelled_once = each_keeps (SpellsPairOnce h.apis h.fields) h.spells (λ i x s. paired_stable h.apis h.fields (take i h.spells) x) u.1.1.1.1.1.1.1.1.1.1.1.1.1.1.1.1.1.0;
-  paths_apart = each_keeps HasOwnPath h.spells (λ i x s. path_stable (take i h.spells) x) u.1.1.1.1.1.1.1.1.1.1.1.1.1.1.1.1.1.1.0;
-  types_fit = each_keeps (FitsField h.fields) h.spells (λ i x s. stable_all (λ f. IsOfField f x → FitsType f.ty x.form x.default) h.fields (λ f. stable_to (fit_stable f.ty x.form x.default))) u.1.1.1.1.1.1.1.1.1.1.1.1.1.1.1.1.1.1.1.0;
-}
+record Joined (Holds : Type 0) (IsBrokenAt : ℕ → Type 0) : Type 0 where
+  pub sound : Holds → (n : ℕ) → ¬ IsBrokenAt n
+  pub whole : ((n : ℕ) → ¬ IsBrokenAt n) → Holds
+
+abbrev AllJoined : Dated → List Check → Type 0
+AllJoined h [] = Unit {0}
+AllJoined h (check ∷ more) = Joined (check.Holds h) (check.IsBrokenAt h) × AllJoined h more
+
+join_both : (h : Dated) (xs ys : List Check) → AllJoined h xs → AllJoined h ys → AllJoined h (xs ++ ys)
+join_both h [] ys one other = other
+join_both h (x ∷ xs) ys one other = (one.0, join_both h xs ys one.1 other)
+
+all_unbroken : (h : Dated) (tests : List Check) → AllJoined h tests → AllHold h tests → IsUnbroken h tests
+all_unbroken h [] joined all = tt
+all_unbroken h (test ∷ more) joined all = (joined.0.sound all.0, all_unbroken h more joined.1 all.1)
+
+all_hold : (h : Dated) (tests : List Check) → AllJoined h tests → IsUnbroken h tests → AllHold h tests
+all_hold h [] joined none = tt
+all_hold h (test ∷ more) joined none = (joined.0.whole none.0, all_hold h more joined.1 none.1)
+
+each_joined : {E : Type 0} (Keeps : List E → E → Type 0) (xs : List E) → ((i : ℕ) (x : E) → slice_get xs i ≡ Some x → IsStable (Keeps (take i xs) x)) → Joined (Each Keeps xs) (Breaks Keeps xs)
+each_joined Keeps xs stable = record { sound = unbroken Keeps xs; whole = each_keeps Keeps xs stable }
+
+module _ (h : Dated) (shaped : IsShaped h) where
+  on_releases : AllJoined h (release_check ∷ [])
+  on_releases = (record { sound = λ all n top. top.1 all; whole = λ none. releases_stable h.first h.last (λ no. none 0 (refl, no)) }, tt)
+
+  on_dates : AllJoined h date_checks
+  on_dates = (
+    each_joined (IsGateBy (last_of h)) h.gates (λ i x s. stable_at_most x.since (last_of h)),
+    (
+      each_joined (IsApiBy (last_of h)) h.apis (λ i x s. stable_at_most x.since (last_of h)),
+      (
+        each_joined (IsFieldBy (last_of h)) h.fields (λ i x s. stable_at_most x.since (last_of h)),
+        (each_joined (IsSpellBy (last_of h)) h.spells (λ i x s. stable_at_most x.since (last_of h)), tt),
+      ),
+    ),
+  )
+
+  on_gates : AllJoined h gate_checks
+  on_gates = (
+    each_joined RisesInGate h.gates (λ i x s. rises_stable _ x.since),
+    (
+      each_joined FitsStage h.gates (λ i x s. fits_stable x.change),
+      (each_joined FollowsLockedSpec h.gates (λ i x s. ripe_stable _ x.since x.change), tt),
+    ),
+  )
+
+  on_apis : AllJoined h api_checks
+  on_apis = (
+    each_joined StandsInOrder h.apis (λ i x s. next_stable _ x.since x.change),
+    (
+      each_joined NamesItsKind h.apis (λ i x s. stable_both (name_stable x) (stable_all (KeepKindsApart x) (take i h.apis) (λ y. apart_stable x y))),
+      (
+        each_joined (DeprecatesFairly h.apis) h.apis (λ i x s. let shape = shaped_at h.apis shaped.apis i x s in fair_stable h.apis x x.change shape.version shape.change),
+        (
+          each_joined (KeepsPlan h.apis (last_of h)) h.apis (λ i x s. kept_stable h.apis (last_of h) _ x x.change),
+          (each_joined (ForgetsLate h.apis) h.apis (λ i x s. forgotten_stable h.apis _ x x.change), tt),
+        ),
+      ),
+    ),
+  )
+
+  on_fields : AllJoined h field_checks
+  on_fields = (
+    each_joined (BelongsToResource (first_of h) h.apis) h.fields (λ i x s. belongs_stable (first_of h) h.apis (take i h.fields) x),
+    (
+      each_joined (IsRequiredFairly h.apis) h.fields (λ i x s. stable_to (always_stable h.apis x)),
+      (
+        each_joined (HasKnownGate (first_of h) h.gates) h.fields (λ i x s. gate_stable (first_of h) h.gates x x.gate),
+        (
+          each_joined (IsSpelledThroughout h.apis h.spells) h.fields (λ i x s. spelled_stable h.apis h.spells x),
+          (
+            each_joined (SpellsPairOnce h.apis h.fields) h.spells (λ i x s. paired_stable h.apis h.fields (take i h.spells) x),
+            (
+              each_joined HasOwnPath h.spells (λ i x s. path_stable (take i h.spells) x),
+              (each_joined (FitsField h.fields) h.spells (λ i x s. stable_all (λ f. IsOfField f x → FitsType f.ty x.form x.default) h.fields (λ f. stable_to (fit_stable f.ty x.form x.default))), tt),
+            ),
+          ),
+        ),
+      ),
+    ),
+  )
+
+  all_joined : AllJoined h checks
+  all_joined =
+      join_both h (release_check ∷ date_checks ++ gate_checks ++ api_checks) field_checks
+      (join_both h (release_check ∷ date_checks ++ gate_checks) api_checks
+      (join_both h (release_check ∷ date_checks) gate_checks (join_both h (release_check ∷ []) date_checks on_releases on_dates) on_gates) on_apis) on_fields
+
+  pub accepted_unbroken : IsAccepted h → IsUnbroken h checks
+  accepted_unbroken a = all_unbroken h checks all_joined a.keeps
+
+  pub unbroken_accepted : IsUnbroken h checks → IsAccepted h
+  unbroken_accepted none = record { keeps = all_hold h checks all_joined none }

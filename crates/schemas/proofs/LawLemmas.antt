@@ -18,6 +18,7 @@ use Rattle.schemas.specs.GateRules.{is_of_gate, previous_of_gate, IsGone, RisesI
 use Rattle.schemas.specs.ApiRules.{is_of_version, previous_of_version, name_of, IsNext, IsPlanned, IsKept}
 use Rattle.schemas.specs.Rules.{IsAccepted, Check, IsUnbroken, IsFirstFault, last_of}
 use Rattle.schemas.specs.Laws.{GatesRise, AreOfOneVersion, IsIntroducedOnce, IsKindLive, KindsStayLive, AreOneFault}
+use Rattle.schemas.proofs.AcceptedLemmas as hr
 use Rattle.schemas.proofs.PlaceLemmas.{some_injective}
 use Rattle.schemas.proofs.DecisionLemmas.{removed_decided}
 use Rattle.schemas.proofs.PreviousLemmas.{IsLast, last_passing_is}
@@ -59,7 +60,7 @@ rises_below xs all (suc n) = λ (i j : ℕ) (x y : GateEntry) (bound : j < suc n
 pub gates_rise : (h : Dated) → IsAccepted h → GatesRise h
 gates_rise h a = λ (i j : ℕ) (d : GateEntry) (less : i < j) (within : j < length h.gates) (e : (get_or h.gates i d).name ≡ (get_or h.gates j d).name).
     let bound : j < j + 1 = omega arith in
-    rises_below h.gates a.gates_rise (j + 1) i j (get_or h.gates i d) (get_or h.gates j d) bound less (slice_get-get_or h.gates i d (omega arith)) (slice_get-get_or h.gates j d within) e
+    rises_below h.gates (hr.gates_rise h a) (j + 1) i j (get_or h.gates i d) (get_or h.gates j d) bound less (slice_get-get_or h.gates i d (omega arith)) (slice_get-get_or h.gates j d within) e
 
 -- HR6: an introduction stands behind no entry of its version
 none_before : (previous : Option ApiEntry) (since : ℕ) (change : ApiChange) → IsIntroduction change → IsNext previous since change → IsNone previous
@@ -80,7 +81,7 @@ introduced_once h a = λ (i j : ℕ) (x y : ApiEntry) (less : i < j) (sx : slice
     let within : j < length h.apis = slice_get_within h.apis j y sy in
     let at_most : j ≤ length h.apis = omega arith in
     none_of_version h.apis i j x y less sx e (previous_of_version (take j h.apis) y) (last_passing_is (is_of_version y) h.apis j at_most)
-    (none_before (previous_of_version (take j h.apis) y) y.since y.change second (a.versions_in_order j y sy))
+    (none_before (previous_of_version (take j h.apis) y) y.since y.change second ((hr.versions_in_order h a) j y sy))
 
 -- some entry of a list, by its place
 pub any_stands : {E : Type 0} (P : E → Type 0) (xs : List E) → (any : Any P xs) → slice_get xs any.0 ≡ Some any.1
@@ -115,7 +116,7 @@ stays_live_once h a group resource e live =
           let dated : x.since ≤ e + 1 = known.dated in
           elim (cases_order x.since (e + 1)) [
             | inl same ↦
-                let next = replaced_after h.apis (last_of h) x (previous_of_version (take any.0 h.apis) x) x.change any.4.1 (a.removals_planned any.0 x (any_stands _ h.apis any)) in (
+                let next = replaced_after h.apis (last_of h) x (previous_of_version (take any.0 h.apis) x) x.change any.4.1 ((hr.removals_planned h a) any.0 x (any_stands _ h.apis any)) in (
                   next.0,
                   subst (λ (g : List ℕ). IsLive h.apis (name_of g next.0 resource) (e + 1)) known.group
                       (subst (λ (r : List ℕ). IsLive h.apis (name_of x.group next.0 r) (e + 1)) known.resource

@@ -1,6 +1,7 @@
 pub mod PlaceLemmas
 pub mod PreviousLemmas
 pub mod DecisionLemmas
+pub mod AcceptedLemmas
 pub mod LawLemmas
 pub mod DecodableLemmas
 pub mod FieldLawLemmas

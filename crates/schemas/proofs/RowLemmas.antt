@@ -36,6 +36,7 @@ use Rattle.schemas.specs.Rows.{IsSpelledAs, AreRowsAt}
 use Rattle.schemas.specs.Rules.{IsAccepted}
 use Rattle.schemas.specs.Shapes.{IsShapedSpell}
 use Rattle.schemas.specs.SpellRules.{FitsType}
+use Rattle.schemas.proofs.AcceptedLemmas as hr
 use Rattle.schemas.proofs.FieldLawLemmas.{each_at, one_field, turned, paths_apart, decodable_spelled}
 use Rattle.schemas.proofs.LawLemmas.{any_stands}
 use Rattle.schemas.proofs.PlaceLemmas.{some_injective}
@@ -84,8 +85,8 @@ given h e name row any =
 lawful_row : (h : Dated) → IsAccepted h → IsShaped h → (e : ℕ) (name : GroupVersionResource) (row : FieldRow) → Given h e name row → IsLawfulRow row
 lawful_row h lawful shaped e name row g =
     let shape : IsShapedSpell g.spell = each_at IsShapedSpell h.spells g.spot g.spell g.spell_stands (All-from_recursion IsShapedSpell h.spells shaped.spells) in
-    let path : IsFieldPath g.spell.path = (shape.path, (lawful.paths_apart g.spot g.spell g.spell_stands).free) in
-    let fits : FitsType g.field.ty g.spell.form g.spell.default = each_at (λ f. IsOfField f g.spell → FitsType f.ty g.spell.form g.spell.default) h.fields g.place g.field g.field_stands (lawful.types_fit g.spot g.spell g.spell_stands) g.spelling.0 in
+    let path : IsFieldPath g.spell.path = (shape.path, ((hr.paths_apart h lawful) g.spot g.spell g.spell_stands).free) in
+    let fits : FitsType g.field.ty g.spell.form g.spell.default = each_at (λ f. IsOfField f g.spell → FitsType f.ty g.spell.form g.spell.default) h.fields g.place g.field g.field_stands ((hr.types_fit h lawful) g.spot g.spell g.spell_stands) g.spelling.0 in
     record {
       path = subst IsFieldPath (sym g.given.path) path;
       form = subst (λ ty. IsFormOf ty row.form) (sym g.given.ty) (subst (IsFormOf g.field.ty) (sym g.given.form) fits.of_form);
@@ -159,7 +160,7 @@ fields_few h lawful f =
     let few : (i : ℕ) (x : Field) → slice_get h.fields i ≡ Some x → is_of_resource f x ≡ true → length (filter (is_of_resource f) (take i h.fields)) < 64 = λ i x stands is.
     let parts = of_is f x is in
     let same : is_of_resource x ≡ is_of_resource f = λ j y. bytes_eq y.group (parts.0 j) && bytes_eq y.resource (parts.1 j) in
-    subst (λ (p : Field → Bool). length (filter p (take i h.fields)) < 64) same (lawful.fields_belong i x stands).few in
+    subst (λ (p : Field → Bool). length (filter p (take i h.fields)) < 64) same ((hr.fields_belong h lawful) i x stands).few in
     subst (λ xs. length (filter (is_of_resource f) xs) ≤ 64) (take_all (length h.fields) h.fields (omega arith)) (filtered_few (is_of_resource f) 64 h.fields f few (length h.fields) (omega arith))
 
 mapped : {X Y : Type 0} (f : X → Y) (xs : List X) (x : X) → Contains xs x → Contains (map f xs) (f x)
@@ -321,7 +322,7 @@ there_by : (h : Dated) → IsAccepted h → (name : GroupVersionResource) (m e :
     → (g : Given h e name row) → g.field.since ≤ m → g.spell.since ≤ m
 there_by h lawful name m e row decodes g dated =
     let once : IsSpelledOnceBy m h.spells g.field name = decodable_spelled h lawful name m g.place g.field decodes g.field_stands
-        (g.spelling.0.group ∙ sym g.spelling.1.group) (g.spelling.0.resource ∙ sym g.spelling.1.resource) dated in
+    (g.spelling.0.group ∙ sym g.spelling.1.group) (g.spelling.0.resource ∙ sym g.spelling.1.resource) dated in
     let P : Spell → Type 0 = λ s. IsSpelling g.field name s × (s.since ≤ m) in
     let some : Any P h.spells = once.some in
     let stands : slice_get h.spells some.0 ≡ Some some.1 = any_stands P h.spells some in
@@ -339,8 +340,7 @@ kept_at h lawful = λ (is_on also_on : List ℕ → Bool) (name : GroupVersionRe
       let made = made_at h also_on name e others also g.field g.spell (holds_field h m name row g) (holds_spell h m name row g) (omega arith) (omega arith) g.spelling in
       (made.1.0, made.0, made.1.1, made.1.2, one_but_on g.field g.spell row made.0 g.given made.2);
   exact = λ (row : FieldRow) (there : Contains others row).
-      let g : Given h e name row = given_at h also_on name e others also row there in
-      (
+      let g : Given h e name row = given_at h also_on name e others also row there in (
         λ (some : Any (λ f. IsThere name m f × (f.id ≡ row.id)) h.fields).
             let f : Field = some.1 in
             let is : IsThere name m f = some.4.0 in
@@ -349,7 +349,7 @@ kept_at h lawful = λ (is_on also_on : List ℕ → Bool) (name : GroupVersionRe
             let id : f.id ≡ g.field.id = some.4.1 ∙ g.given.id in
             let stands : slice_get h.fields some.0 ≡ Some f = any_stands (λ f. IsThere name m f × (f.id ≡ row.id)) h.fields some in
             let same : f ≡ g.field = one_field h lawful some.0 g.place f g.field stands g.field_stands
-                (record { group = sym group; resource = sym resource; id = sym id }) (record { group = group; resource = resource; id = id }) in
+            (record { group = sym group; resource = sym resource; id = sym id }) (record { group = group; resource = resource; id = id }) in
             let dated : g.field.since ≤ m = subst (λ (x : Field). x.since ≤ m) same is.dated in
             let made = made_at h is_on name m rows are g.field g.spell (holds_field h e name row g) (holds_spell h e name row g) dated (there_by h lawful name m e row decodes g dated) g.spelling in
             (made.1.0, made.0, made.1.1, made.1.2, one_but_on g.field g.spell made.0 row made.2 g.given),

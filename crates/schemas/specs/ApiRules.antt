@@ -14,7 +14,8 @@ use Rattle.schemas.specs.Places.{last_passing}
 
 -- y is an entry of the version of x
 abbrev pub is_of_version : ApiEntry → ApiEntry → Bool
-is_of_version x y = bytes_eq x.group y.group && bytes_eq x.version y.version && bytes_eq x.resource y.resource
+is_of_version x y =
+    bytes_eq x.group y.group && bytes_eq x.version y.version && bytes_eq x.resource y.resource
 
 -- the previous entry of the version of x
 abbrev pub previous_of_version : List ApiEntry → ApiEntry → Option ApiEntry
@@ -39,22 +40,26 @@ IsForgotten entries name e = Any (λ x. IsKnownOf name e x × IsForgetting x.cha
 -- a change of a version, with its date, behind the version's previous entry
 abbrev pub IsNext : Option ApiEntry → ℕ → ApiChange → Type 0
 IsNext previous since (Introduced kind singular namespaced enabled) = IsNone previous
-IsNext previous since (Deprecated removal replacement) = IsSomeAnd previous (λ y. IsIntroduction y.change × (y.since < since))
+IsNext previous since (Deprecated removal replacement) =
+    IsSomeAnd previous (λ y. IsIntroduction y.change × (y.since < since))
 IsNext previous since Removed = IsSomeAnd previous (λ y. IsDeprecation y.change × (y.since ≤ since))
 IsNext previous since Forgotten = IsSomeAnd previous (λ y. IsRemoval y.change × (y.since < since))
 
--- HR6: the entries of a version are introduced, deprecated, removed, forgotten, in this order, and dated so
+-- HR6: the entries of a version are introduced, deprecated, removed, forgotten, in this order, and
+-- dated so
 abbrev pub StandsInOrder : List ApiEntry → ApiEntry → Type 0
 StandsInOrder earlier x = IsNext (previous_of_version earlier x) x.since x.change
 
 -- two introductions agree in kind, singular and scope
 abbrev pub AgreeInKind : ApiChange → ApiChange → Type 0
-AgreeInKind (Introduced kind singular namespaced enabled) (Introduced kind' singular' namespaced' enabled') = (kind ≡ kind') × (singular ≡ singular') × (namespaced ≡ namespaced')
+AgreeInKind (Introduced kind singular namespaced enabled) (Introduced kind' singular' namespaced' enabled') =
+    (kind ≡ kind') × (singular ≡ singular') × (namespaced ≡ namespaced')
 AgreeInKind _ _ = Unit {0}
 
 -- two introductions differ in kind
 abbrev pub DifferInKind : ApiChange → ApiChange → Type 0
-DifferInKind (Introduced kind singular namespaced enabled) (Introduced kind' singular' namespaced' enabled') = kind ≢ kind'
+DifferInKind (Introduced kind singular namespaced enabled) (Introduced kind' singular' namespaced' enabled') =
+    kind ≢ kind'
 DifferInKind _ _ = Unit {0}
 
 -- within a group, introductions of one resource agree in kind, and those of two resources differ
@@ -77,15 +82,18 @@ notice_of Ga = 3
 notice_of (Beta n) = 3
 notice_of (Alpha n) = 0
 
--- a deprecation leaves time, in favour of another version of the same resource that is there by then and isn't of a lower level
-pub record IsFairBetween (all : List ApiEntry) (x : ApiEntry) (removal : ℕ) (replacement : List ℕ) (own other : Level) : Type 0 where
+-- a deprecation leaves time, in favour of another version of the same resource that is there by
+-- then and isn't of a lower level
+pub record IsFairBetween (all : List ApiEntry) (x : ApiEntry) (removal : ℕ) (replacement : List ℕ)
+    (own other : Level) : Type 0 where
   pub notice : x.since + notice_of own ≤ removal
   pub another : x.version ≢ replacement
   pub level : rank_of other ≤ rank_of own
   pub introduced : IsIntroduced all (name_of x.group replacement x.resource) x.since
 
 -- the same, with the levels that the two versions have by their words
-pub record IsFairDeprecation (all : List ApiEntry) (x : ApiEntry) (removal : ℕ) (replacement : List ℕ) : Type 0 where
+pub record IsFairDeprecation (all : List ApiEntry) (x : ApiEntry) (removal : ℕ)
+    (replacement : List ℕ) : Type 0 where
   pub own : VersionWord
   pub other : VersionWord
   pub own_word : IsWord own × (x.version ≡ word_text own)
@@ -102,11 +110,13 @@ DeprecatesFairly all earlier x = IsFairChange all x x.change
 
 -- a removal of x is dated as the deprecation plans it, and the replacement is live then
 abbrev pub IsPlanned : List ApiEntry → ApiEntry → ApiChange → Type 0
-IsPlanned all x (Deprecated removal replacement) = (x.since ≡ removal) × IsLive all (name_of x.group replacement x.resource) x.since
+IsPlanned all x (Deprecated removal replacement) =
+    (x.since ≡ removal) × IsLive all (name_of x.group replacement x.resource) x.since
 IsPlanned all x _ = ⊥
 
 abbrev pub IsKept : List ApiEntry → ℕ → Option ApiEntry → ApiEntry → ApiChange → Type 0
-IsKept all last previous x (Deprecated removal replacement) = removal ≤ last → IsRemoved all (name_of x.group x.version x.resource) last
+IsKept all last previous x (Deprecated removal replacement) =
+    removal ≤ last → IsRemoved all (name_of x.group x.version x.resource) last
 IsKept all last previous x Removed = IsSomeAnd previous (λ y. IsPlanned all x y.change)
 IsKept all last previous x _ = Unit {0}
 
@@ -116,16 +126,19 @@ KeepsPlan all last earlier x = IsKept all last (previous_of_version earlier x) x
 
 -- y deprecates a version in favour of that of x
 abbrev pub IsInFavourOf : ApiEntry → ApiEntry → ApiChange → Type 0
-IsInFavourOf x y (Deprecated removal replacement) = (x.group ≡ y.group) × (x.version ≡ replacement) × (x.resource ≡ y.resource)
+IsInFavourOf x y (Deprecated removal replacement) =
+    (x.group ≡ y.group) × (x.version ≡ replacement) × (x.resource ≡ y.resource)
 IsInFavourOf x y _ = ⊥
 
 -- a forgetting comes at least three releases after the removal, which is the version's previous entry
 abbrev pub IsLateAfter : Option ApiEntry → ℕ → Type 0
 IsLateAfter previous since = IsSomeAnd previous (λ y. IsRemoval y.change × (y.since + 3 ≤ since))
 
--- where y deprecates its version in favour of that of x, that version is forgotten not later than x is dated
+-- where y deprecates its version in favour of that of x, that version is forgotten not later than x
+-- is dated
 abbrev pub IsForgottenBefore : List ApiEntry → ApiEntry → ApiEntry → Type 0
-IsForgottenBefore all x y = IsInFavourOf x y y.change → IsForgotten all (name_of y.group y.version y.resource) x.since
+IsForgottenBefore all x y =
+    IsInFavourOf x y y.change → IsForgotten all (name_of y.group y.version y.resource) x.since
 
 -- each version deprecated in favour of that of x is forgotten not later than x is dated
 abbrev pub AreForgottenFirst : List ApiEntry → ApiEntry → Type 0

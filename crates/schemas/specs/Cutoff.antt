@@ -14,4 +14,11 @@ spells_by spells e = filter (λ s. nat_le s.since e) spells
 
 -- the history cut at the release, which is its last one then
 abbrev pub cutoff : Dated → ℕ → Dated
-cutoff h e = record { first = h.first; last = Some e; gates = gates_by h.gates e; apis = apis_by h.apis e; fields = fields_by h.fields e; spells = spells_by h.spells e }
+cutoff h e = record {
+  first = h.first;
+  last = Some e;
+  gates = gates_by h.gates e;
+  apis = apis_by h.apis e;
+  fields = fields_by h.fields e;
+  spells = spells_by h.spells e;
+}

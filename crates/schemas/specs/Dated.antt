@@ -17,7 +17,8 @@ pub record Dated : Type 0 where
   pub fields : List Field
   pub spells : List Spell
 
--- all that the history holds has the shape of its member: what a document can say, and what its type keeps
+-- all that the history holds has the shape of its member: what a document can say, and what its
+-- type keeps
 pub record IsShaped (h : Dated) : Type 0 where
   pub first : IfSome h.first IsMinor
   pub last : IfSome h.last IsMinor

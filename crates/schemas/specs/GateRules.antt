@@ -31,7 +31,8 @@ RisesFrom previous since = IfSome previous (λ y. (y.since < since) × ¬ IsGone
 abbrev pub RisesInGate : List GateEntry → GateEntry → Type 0
 RisesInGate earlier x = RisesFrom (previous_of_gate earlier x) x.since
 
--- what a stage asks of a spec: alpha is off and not locked, beta isn't locked, general availability is on
+-- what a stage asks of a spec: alpha is off and not locked, beta isn't locked, general availability
+-- is on
 abbrev pub IsFitSpec : GateChange → Type 0
 IsFitSpec (Spec Alpha default locked) = (default ≡ false) × (locked ≡ false)
 IsFitSpec (Spec Beta default locked) = locked ≡ false

@@ -12,7 +12,8 @@ pub record IntroducesVersionOf (group resource : List ℕ) (x : ApiEntry) : Type
   pub of_resource : x.resource ≡ resource
   pub introduces : IsIntroduction x.change
 
--- a field and a version of its resource, here the one that x introduces, are a pair, unless the version is forgotten when the field begins
+-- a field and a version of its resource, here the one that x introduces, are a pair, unless the
+-- version is forgotten when the field begins
 pub record IsPair (apis : List ApiEntry) (f : Field) (x : ApiEntry) : Type 0 where
   pub version : IntroducesVersionOf f.group f.resource x
   pub kept : ¬ IsForgotten apis (subject x) f.since
@@ -46,11 +47,14 @@ AreOfOnePair s t = AreForOneVersion s t × (s.field ≡ t.field)
 -- the field has exactly one spelling in the version
 pub record HasOneSpelling (spells : List Spell) (f : Field) (name : GroupVersionResource) : Type 0 where
   pub some : Any (IsSpelling f name) spells
-  pub one : (i j : ℕ) (s t : Spell) → slice_get spells i ≡ Some s → slice_get spells j ≡ Some t → IsSpelling f name s → IsSpelling f name t → i ≡ j
+  pub one : (i j : ℕ) (s t : Spell) → slice_get spells i ≡ Some s → slice_get spells j ≡ Some t
+      → IsSpelling f name s → IsSpelling f name t → i ≡ j
 
 -- each pair has exactly one spelling
 abbrev pub EachPairHasOneSpelling : List ApiEntry → List Field → List Spell → Type 0
-EachPairHasOneSpelling apis fields spells = (i j : ℕ) (f : Field) (x : ApiEntry) → slice_get fields i ≡ Some f → slice_get apis j ≡ Some x → IsPair apis f x → HasOneSpelling spells f (subject x)
+EachPairHasOneSpelling apis fields spells =
+    (i j : ℕ) (f : Field) (x : ApiEntry) → slice_get fields i ≡ Some f → slice_get apis j ≡ Some x
+    → IsPair apis f x → HasOneSpelling spells f (subject x)
 
 -- s is the spelling of the field's pair with the version that x introduces, dated when both are there
 pub record SpellsPair (apis : List ApiEntry) (f : Field) (s : Spell) (x : ApiEntry) : Type 0 where

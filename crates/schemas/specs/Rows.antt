@@ -18,13 +18,16 @@ pub record IsSpelledAs (f : Field) (s : Spell) (row : FieldRow) : Type 0 where
   pub form : row.form ≡ s.form
   pub default : row.default ≡ s.default
 
--- the row gives one of the fields as it is spelled in the version, and is on if no gate guards the field or the gate is on
+-- the row gives one of the fields as it is spelled in the version, and is on if no gate guards the
+-- field or the gate is on
 abbrev pub IsRow : (List ℕ → Type 0) → List Field → List Spell → GroupVersionResource → FieldRow → Type 0
 IsRow IsOn fields spells name row =
-    Any (λ f. Any (λ s. IsSpelling f name s × IsSpelledAs f s row × (IsTrue row.on ↔ IfSome f.gate IsOn)) spells) fields
+    Any (λ f. Any (λ s.
+    IsSpelling f name s × IsSpelledAs f s row × (IsTrue row.on ↔ IfSome f.gate IsOn)) spells) fields
 
 -- the rows of the version, each once, in order
-pub record AreRows (IsOn : List ℕ → Type 0) (fields : List Field) (spells : List Spell) (name : GroupVersionResource) (rows : List FieldRow) : Type 0 where
+pub record AreRows (IsOn : List ℕ → Type 0) (fields : List Field) (spells : List Spell)
+    (name : GroupVersionResource) (rows : List FieldRow) : Type 0 where
   pub order : IdsRise rows
   pub exact : (row : FieldRow) → Contains rows row ↔ IsRow IsOn fields spells name row
 

@@ -39,50 +39,55 @@ IsFieldBy last earlier x = x.since ≤ last
 abbrev pub IsSpellBy : ℕ → List Spell → Spell → Type 0
 IsSpellBy last earlier x = x.since ≤ last
 
--- a history that keeps the rules HR1 to HR16, each in its turn
-pub record IsAccepted (h : Dated) : Type 0 where
-  pub releases : HasReleases h
-  pub gates_by_last : Each (IsGateBy (last_of h)) h.gates
-  pub apis_by_last : Each (IsApiBy (last_of h)) h.apis
-  pub fields_by_last : Each (IsFieldBy (last_of h)) h.fields
-  pub spells_by_last : Each (IsSpellBy (last_of h)) h.spells
-  pub gates_rise : Each RisesInGate h.gates
-  pub gates_fit_stages : Each FitsStage h.gates
-  pub gates_end_locked : Each FollowsLockedSpec h.gates
-  pub versions_in_order : Each StandsInOrder h.apis
-  pub kinds_apart : Each NamesItsKind h.apis
-  pub deprecations_fair : Each (DeprecatesFairly h.apis) h.apis
-  pub removals_planned : Each (KeepsPlan h.apis (last_of h)) h.apis
-  pub forgettings_late : Each (ForgetsLate h.apis) h.apis
-  pub fields_belong : Each (BelongsToResource (first_of h) h.apis) h.fields
-  pub required_fairly : Each (IsRequiredFairly h.apis) h.fields
-  pub guards_known : Each (HasKnownGate (first_of h) h.gates) h.fields
-  pub spelled_throughout : Each (IsSpelledThroughout h.apis h.spells) h.fields
-  pub spelled_once : Each (SpellsPairOnce h.apis h.fields) h.spells
-  pub paths_apart : Each HasOwnPath h.spells
-  pub types_fit : Each (FitsField h.fields) h.spells
-
--- one test of a history: the rule, the array that it goes over, and which entry number breaks it there
+-- one test of a history: the rule, the array that it goes over, where it holds, and which entry
+-- number breaks it there
 pub record Check : Type 1 where
   pub rule : ℕ
   pub array : Array
+  pub Holds : Dated → Type 0
   pub IsBrokenAt : Dated → ℕ → Type 0
 
 abbrev pub gate_check : ℕ → (Dated → List GateEntry → GateEntry → Type 0) → Check
-gate_check rule Keeps = record { rule = rule; array = Gate; IsBrokenAt = λ h. Breaks (Keeps h) h.gates }
+gate_check rule Keeps = record {
+  rule = rule;
+  array = Gate;
+  Holds = λ h. Each (Keeps h) h.gates;
+  IsBrokenAt = λ h. Breaks (Keeps h) h.gates;
+}
 
 abbrev pub api_check : ℕ → (Dated → List ApiEntry → ApiEntry → Type 0) → Check
-api_check rule Keeps = record { rule = rule; array = Api; IsBrokenAt = λ h. Breaks (Keeps h) h.apis }
+api_check rule Keeps = record {
+  rule = rule;
+  array = Api;
+  Holds = λ h. Each (Keeps h) h.apis;
+  IsBrokenAt = λ h. Breaks (Keeps h) h.apis;
+}
 
 abbrev pub field_check : ℕ → (Dated → List Field → Field → Type 0) → Check
-field_check rule Keeps = record { rule = rule; array = FieldArray; IsBrokenAt = λ h. Breaks (Keeps h) h.fields }
+field_check rule Keeps = record {
+  rule = rule;
+  array = FieldArray;
+  Holds = λ h. Each (Keeps h) h.fields;
+  IsBrokenAt = λ h. Breaks (Keeps h) h.fields;
+}
 
 abbrev pub spell_check : ℕ → (Dated → List Spell → Spell → Type 0) → Check
-spell_check rule Keeps = record { rule = rule; array = SpellArray; IsBrokenAt = λ h. Breaks (Keeps h) h.spells }
+spell_check rule Keeps = record {
+  rule = rule;
+  array = SpellArray;
+  Holds = λ h. Each (Keeps h) h.spells;
+  IsBrokenAt = λ h. Breaks (Keeps h) h.spells;
+}
 
--- the test of the releases, those of the dates, and those of gates, of versions, and of fields and spellings
+-- the test of the releases, those of the dates, and those of gates, of versions, and of fields and
+-- spellings
 abbrev pub release_check : Check
-release_check = record { rule = 1; array = Top; IsBrokenAt = λ h number. (number ≡ 0) × ¬ HasReleases h }
+release_check = record {
+  rule = 1;
+  array = Top;
+  Holds = HasReleases;
+  IsBrokenAt = λ h number. (number ≡ 0) × ¬ HasReleases h;
+}
 
 abbrev pub date_checks : List Check
 date_checks =
@@ -123,6 +128,15 @@ field_checks =
 abbrev pub checks : List Check
 checks = release_check ∷ date_checks ++ gate_checks ++ api_checks ++ field_checks
 
+-- each of the tests holds
+abbrev pub AllHold : Dated → List Check → Type 0
+AllHold h [] = Unit {0}
+AllHold h (check ∷ more) = check.Holds h × AllHold h more
+
+-- a history that keeps the rules
+pub record IsAccepted (h : Dated) : Type 0 where
+  pub keeps : AllHold h checks
+
 -- no entry breaks any of the rules
 abbrev pub IsUnbroken : Dated → List Check → Type 0
 IsUnbroken h [] = Unit {0}
@@ -137,4 +151,5 @@ IsFirstFault h (check ∷ more) rule array number =
 
 -- what the tests find: the first fault, or that there is none
 abbrev pub FindsFault : Dated → List Check → Option Broken → Type 0
-FindsFault h tests found = MatchOption found (IsUnbroken h tests) (λ b. IsFirstFault h tests b.rule b.array b.index)
+FindsFault h tests found =
+    MatchOption found (IsUnbroken h tests) (λ b. IsFirstFault h tests b.rule b.array b.index)

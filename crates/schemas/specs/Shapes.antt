@@ -17,7 +17,8 @@ use Rattle.lifecycle.specs.declared.entry.ApiEntry.{ApiEntry}
 abbrev pub IsMinor : ℕ → Type 0
 IsMinor k = k ≤ 999
 
--- a feature gate: an upper-case letter, then letters and digits, and neither of the words that set all gates of a stage
+-- a feature gate: an upper-case letter, then letters and digits, and neither of the words that set
+-- all gates of a stage
 pub record IsGateName (text : List ℕ) : Type 0 where
   pub word : BeginsUpper 63 text
   pub not_all_alpha : text ≢ codes "AllAlpha"

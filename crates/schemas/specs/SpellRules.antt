@@ -9,8 +9,10 @@ use Rattle.fields.specs.declared.value.FieldValue.{FieldValue}
 use Rattle.lifecycle.specs.declared.entry.ApiEntry.{ApiEntry}
 use Rattle.schemas.specs.Pairs.{IsOfField, IsPaired, AreForOneVersion, AreOfOnePair}
 
--- HR14, of a spelling: it is that of a pair, dated when both the field and the version are there, and the pair has no earlier one
-pub record SpellsPairOnce (apis : List ApiEntry) (fields : List Field) (earlier : List Spell) (s : Spell) : Type 0 where
+-- HR14, of a spelling: it is that of a pair, dated when both the field and the version are there,
+-- and the pair has no earlier one
+pub record SpellsPairOnce (apis : List ApiEntry) (fields : List Field) (earlier : List Spell)
+    (s : Spell) : Type 0 where
   pub paired : IsPaired apis fields s
   pub single : All (λ t. ¬ AreOfOnePair s t) earlier
 

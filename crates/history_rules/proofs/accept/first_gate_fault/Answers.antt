@@ -13,8 +13,8 @@ returns-in-Some c = λ (h : Dated) (same : h.gates ≡ c.args.gates.now).
 
 pub returns-in-Some-first_unfit_spec : goal.returns-in-Some-first_unfit_spec
 returns-in-Some-first_unfit_spec c = λ (h : Dated) (same : h.gates ≡ c.args.gates.now).
-    subst (FindsFault h gate_checks) (sym c.broken-in-Some-first_unfit_spec.ensures) (inr (unbroken RisesInGate h.gates (subst (λ (l : List GateEntry). Each RisesInGate l) (sym same) c.in_default-first_not_rising.ensures), inl (refl, refl, subst (λ (l : List GateEntry). IsLeast (Breaks FitsStage l) c.in-Some-first_unfit_spec.index) (sym same) c.in-Some-first_unfit_spec.ensures)))
+    subst (FindsFault h gate_checks) (sym c.broken-in-Some-first_unfit_spec.ensures) (inr (unbroken RisesInGate h.gates (subst (λ (l : List GateEntry). Each RisesInGate l) (sym same) c.in_default.ensures), inl (refl, refl, subst (λ (l : List GateEntry). IsLeast (Breaks FitsStage l) c.in-Some-first_unfit_spec.index) (sym same) c.in-Some-first_unfit_spec.ensures)))
 
 pub returns-in-Some-first_unripe_removal : goal.returns-in-Some-first_unripe_removal
 returns-in-Some-first_unripe_removal c = λ (h : Dated) (same : h.gates ≡ c.args.gates.now).
-    subst (FindsFault h gate_checks) (sym c.broken-in-Some-first_unripe_removal.ensures) (inr (unbroken RisesInGate h.gates (subst (λ (l : List GateEntry). Each RisesInGate l) (sym same) c.in_default-first_not_rising.ensures), inr (unbroken FitsStage h.gates (subst (λ (l : List GateEntry). Each FitsStage l) (sym same) c.in_default-first_unfit_spec.ensures), inl (refl, refl, subst (λ (l : List GateEntry). IsLeast (Breaks FollowsLockedSpec l) c.in-Some-first_unripe_removal.index) (sym same) c.in-Some-first_unripe_removal.ensures))))
+    subst (FindsFault h gate_checks) (sym c.broken-in-Some-first_unripe_removal.ensures) (inr (unbroken RisesInGate h.gates (subst (λ (l : List GateEntry). Each RisesInGate l) (sym same) c.in_default.ensures), inr (unbroken FitsStage h.gates (subst (λ (l : List GateEntry). Each FitsStage l) (sym same) c.in_default-first_unfit_spec.ensures), inl (refl, refl, subst (λ (l : List GateEntry). IsLeast (Breaks FollowsLockedSpec l) c.in-Some-first_unripe_removal.index) (sym same) c.in-Some-first_unripe_removal.ensures))))
