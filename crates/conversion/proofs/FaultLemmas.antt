@@ -11,7 +11,8 @@ use Rattle.fields.specs.declared.table.FieldRow.{FieldRow}
 use Rattle.fields.specs.declared.value.FieldValue.{FieldValue}
 use Rattle.serde_json.specs.Data.{Data}
 use Rattle.conversion.specs.Trees.{Names, Stands, IsBlocked}
-use Rattle.conversion.specs.Reading.{IsRead, IsFault}
+use Rattle.basis.proofs.FirstLemmas.{first_is_one}
+use Rattle.conversion.specs.Reading.{IsFault, MeetsCase}
 use Rattle.conversion.specs.Showing.{Shows}
 use Rattle.conversion.specs.Laws.{HasOneFault, GoesThereAndBack}
 use Rattle.conversion.specs.declared.mode.Mode.{Mode}
@@ -40,28 +41,11 @@ fault_at_row tree row path other cause why (inl h) (inr k) = absurd (blocked_sta
 fault_at_row tree row path other cause why (inr h) (inl k) = absurd (blocked_stands tree row.path other h.0.json k.0 h.0.stands)
 fault_at_row tree row path other cause why (inr h) (inr k) = (h.1 ∙ sym k.1, h.2 ∙ sym k.2)
 
-abbrev IsFine : Mode → Data → FieldRow → Type 0
-IsFine mode tree row = (read : Option FieldValue) × IsRead mode tree row read
-
-one_row : (mode : Mode) (tree : Data) (before front : List FieldRow) (row r : FieldRow) (after rest : List FieldRow) (path other : Names) (cause why : ReadCause) → before ++ row ∷ after ≡ front ++ r ∷ rest → AllByRecursion (IsFine mode tree) before
-    → AllByRecursion (IsFine mode tree) front → IsFault tree row path cause → IsFault tree r other why → row ≡ r
-one_row mode tree [] [] row r after rest path other cause why same a b h k = cc
-one_row mode tree [] (x ∷ front) row r after rest path other cause why same a b h k =
-    let here : x ≡ row = cc in
-    let fine = subst (IsFine mode tree) here b.0 in
-    absurd (fault_refutes mode tree row path cause fine.0 h fine.1)
-one_row mode tree (x ∷ before) [] row r after rest path other cause why same a b h k =
-    let here : x ≡ r = cc in
-    let fine = subst (IsFine mode tree) here a.0 in
-    absurd (fault_refutes mode tree r other why fine.0 k fine.1)
-one_row mode tree (x ∷ before) (y ∷ front) row r after rest path other cause why same a b h k =
-    let tails : before ++ row ∷ after ≡ front ++ r ∷ rest = cc in
-    one_row mode tree before front row r after rest path other cause why tails a.1 b.1 h k
-
 pub one_fault : (mode : Mode) (rows : List FieldRow) (tree : Data) → HasOneFault mode rows tree
 one_fault mode rows tree path other cause why h k =
-    let same = one_row mode tree h.before k.before h.row k.row h.after k.after path other cause why (sym h.whole ∙ k.whole) (recursion_from_All (IsFine mode tree) h.before h.fine) (recursion_from_All (IsFine mode tree) k.before k.fine) h.faulty k.faulty in
-    fault_at_row tree h.row path other cause why h.faulty (subst (λ r. IsFault tree r other why) (sym same) k.faulty)
+    let apart = λ (p : Names) (c : ReadCause) (r : FieldRow) (faulty : IsFault tree r p c) (fine : MeetsCase mode tree r). fault_refutes mode tree r p c fine.0 faulty fine.1 in
+    let same : h.0 ≡ k.0 = first_is_one (MeetsCase mode tree) (λ r. IsFault tree r path cause) (λ r. IsFault tree r other why) rows h.0 k.0 (apart path cause) (apart other why) h.1 k.1 in
+    fault_at_row tree h.0 path other cause why h.1.faulty (subst (λ r. IsFault tree r other why) (sym same) k.1.faulty)
 
 -- ---- two versions of the same fields
 

@@ -1,22 +1,22 @@
 -- A tree reads as at most one map, and one that is read has no fault.
-use Rattle.std.proofs.Common.{◌≡◌, ◌≢◌, inl, inr, ℕ, suc, ◌<◌, Bool, true, false, cond, List, [], ◌∷◌, ◌++◌, length, get_or, take, drop, map, Option, Some, None, IfSome, All, nat_cmp, arith, refl, sym, ◌∙◌, ap, subst, bytes_eq}
+use Rattle.std.proofs.Common.{◌≡◌, ◌≢◌, inl, inr, ℕ, suc, ◌<◌, Bool, true, false, cond, List, [], ◌∷◌, ◌++◌, length, get_or, take, map, Option, Some, None, IfSome, All, nat_cmp, arith, refl, sym, ◌∙◌, ap, subst, bytes_eq}
 use Rattle.std.specs.List.{AllByRecursion}
 use Rattle.std.specs.Cmp.Lexicographic.{slice_cmp}
 use Rattle.std.proofs.lemmas.List.{length-take-le, get_or-take, get_or-map}
 use Rattle.std.proofs.lemmas.List.Elements.{recursion_from_All, All-from_recursion, All-push}
 use Rattle.std.proofs.lemmas.Map.Keys.{Less-from_sorted}
-use Rattle.std.proofs.lemmas.Option.{slice_get_read}
 use Rattle.std.proofs.lemmas.Slice.Eq.{bytes_eq-Decides}
+use Rattle.basis.proofs.FirstLemmas.{first_at, first_refutes}
 use Rattle.fields.specs.Map.{IsMap, value_at}
 use Rattle.fields.specs.declared.map.FieldPair.{FieldPair}
 use Rattle.fields.specs.declared.table.FieldRow.{FieldRow}
 use Rattle.fields.specs.declared.value.FieldValue.{FieldValue}
 use Rattle.fields.specs.Table.{IsValueOf, IdsRise, IsDefaultOf, IsLawfulRow, AreLawful}
-use Rattle.fields.proofs.MapLemmas.{one_list, split_at, no_pairs, below_differs}
+use Rattle.fields.proofs.MapLemmas.{one_list, no_pairs, below_differs}
 use Rattle.serde_json.specs.Data.{Data}
 use Rattle.conversion.specs.Trees.{Names, IsAbsent}
 use Rattle.conversion.specs.Writing.{Spells}
-use Rattle.conversion.specs.Reading.{default_in, IsHeld, IsRead, Reads, IsFault, IsReadFault}
+use Rattle.conversion.specs.Reading.{default_in, IsHeld, IsRead, Reads, IsFault, IsReadFault, MeetsCase}
 use Rattle.fields.specs.Fits.{Fits}
 use Rattle.conversion.specs.Code.{IsFaultOf, IsRowTaken}
 use Rattle.conversion.specs.declared.mode.Mode.TheVariants.{Body, Stored}
@@ -72,11 +72,12 @@ at_middle : {X : Type 0} (P : X → Type 0) (before : List X) (x : X) (after : L
 at_middle P [] x after h = h.0
 at_middle P (y ∷ before) x after h = at_middle P before x after h.1
 
+fine_rows : (mode : Mode) (tree : Data) (held : List FieldPair) (rows : List FieldRow) → All (λ r. IsRead mode tree r (value_at held r.id)) rows → All (MeetsCase mode tree) rows
+fine_rows mode tree held rows h k d below = (value_at held (get_or rows k d).id, h k d below)
+
 pub faultless : (mode : Mode) (rows : List FieldRow) (tree : Data) → IsFaultlessWhereRead mode rows tree
 faultless mode rows tree held path cause h k =
-    let all = recursion_from_All (λ row. IsRead mode tree row (value_at held row.id)) rows h.each in
-    let here = at_middle (λ row. IsRead mode tree row (value_at held row.id)) k.before k.row k.after (subst (AllByRecursion (λ row. IsRead mode tree row (value_at held row.id))) k.whole all) in
-    fault_refutes mode tree k.row path cause (value_at held k.row.id) k.faulty here
+    first_refutes (MeetsCase mode tree) (λ r. IsFault tree r path cause) rows k.0 (λ faulty fine. fault_refutes mode tree k.0 path cause fine.0 faulty fine.1) k.1 (fine_rows mode tree held rows h.each)
 
 -- ---- one more row
 
@@ -130,19 +131,10 @@ ids_apart rows i row rise below is k d inside same =
 
 -- ---- the first fault
 
-fine_rows : (mode : Mode) (tree : Data) (held : List FieldPair) (rows : List FieldRow) → All (λ r. IsRead mode tree r (value_at held r.id)) rows → All (λ r. (read : Option FieldValue) × IsRead mode tree r read) rows
-fine_rows mode tree held rows h k d below = (value_at held (get_or rows k d).id, h k d below)
-
 pub first_fault : (mode : Mode) (rows : List FieldRow) (tree : Data) (held : List FieldPair) (i : ℕ) (row : FieldRow) (fault : ReadFault) → Reads mode (take i rows) tree held → i < length rows → row ≡ get_or rows i row
     → IsFaultOf tree row fault → IsReadFault mode rows tree fault
-first_fault mode rows tree held i row (Bad path cause) h below is faulty = record {
-  before = take i rows;
-  row = row;
-  after = drop (suc i) rows;
-  whole = sym (split_at rows i row (slice_get_read rows (length rows) i row refl below is));
-  fine = fine_rows mode tree held (take i rows) h.each;
-  faulty = faulty;
-}
+first_fault mode rows tree held i row (Bad path cause) h below is faulty =
+    (row, first_at (MeetsCase mode tree) (λ r. IsFault tree r path cause) rows i row below is (fine_rows mode tree held (take i rows) h.each) faulty)
 first_fault mode rows tree held i row Memory h below is faulty = tt
 
 -- ---- what is read fits the rows

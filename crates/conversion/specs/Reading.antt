@@ -1,5 +1,6 @@
 -- What a JSON tree reads as, and why one can't be read.
-use Rattle.std.specs.Prelude.{◌≡◌, ◌≢◌, ◌⊎◌, ℕ, List, ◌∷◌, ◌++◌, Option, Some, None, All, if◌then◌else◌}
+use Rattle.std.specs.Prelude.{◌≡◌, ◌≢◌, ◌⊎◌, ℕ, List, Option, Some, None, All, if◌then◌else◌}
+use Rattle.basis.specs.First.{IsFirst}
 use Rattle.fields.specs.Map.{IsMap, value_at}
 use Rattle.fields.specs.declared.map.FieldPair.{FieldPair}
 use Rattle.fields.specs.declared.table.FieldRow.{FieldRow}
@@ -55,14 +56,14 @@ abbrev pub IsFault : Data → FieldRow → Names → ReadCause → Type 0
 IsFault tree row path cause = (IsBlocked tree row.path path × (cause ≡ NotObject))
     ⊎ (IsMisspelled tree row × (path ≡ row.path) × (cause ≡ cause_of row.ty row.form))
 
--- the first row that meets no case
-pub record IsFirstFault (mode : Mode) (rows : List FieldRow) (tree : Data) (path : Names) (cause : ReadCause) : Type 0 where
-  pub before : List FieldRow
-  pub row : FieldRow
-  pub after : List FieldRow
-  pub whole : rows ≡ before ++ row ∷ after
-  pub fine : All (λ r. (read : Option FieldValue) × IsRead mode tree r read) before
-  pub faulty : IsFault tree row path cause
+-- the row meets a case
+abbrev pub MeetsCase : Mode → Data → FieldRow → Type 0
+MeetsCase mode tree row = (read : Option FieldValue) × IsRead mode tree row read
+
+-- the first row that meets no case has this path and cause
+abbrev pub IsFirstFault : Mode → List FieldRow → Data → Names → ReadCause → Type 0
+IsFirstFault mode rows tree path cause = (row : FieldRow)
+    × IsFirst (MeetsCase mode tree) (λ r. IsFault tree r path cause) rows row
 
 -- a fault of reading is that of the first row that meets no case, or want of memory
 abbrev pub IsReadFault : Mode → List FieldRow → Data → ReadFault → Type 0

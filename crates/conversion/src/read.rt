@@ -70,15 +70,11 @@ fn read_row(
 {
     let path = row.path.items();
     match reach(json, path) {
-        Ok(Some(there)) => match spelled(alloc, row, there) {
-            Ok(Some(value)) => Ok(Some(value)),
-            Ok(None) => Err(fault_at(alloc, path, cause(row))),
-            Err(Memory) => Err(ReadFault::Memory),
+        Ok(Some(there)) => match spelled(alloc, row, there)? {
+            Some(value) => Ok(Some(value)),
+            None => Err(fault_at(alloc, path, cause(row))),
         },
-        Ok(None) => match default_of(alloc, row, mode) {
-            Ok(value) => Ok(value),
-            Err(Memory) => Err(ReadFault::Memory),
-        },
+        Ok(None) => Ok(default_of(alloc, row, mode)?),
         Err(upto) => Err(fault_at(alloc, path.split_at(upto).0, ReadCause::NotObject)),
     }
 }

@@ -79,10 +79,7 @@ fn shown_rows(alloc: Global, rows: &[FieldRow], fields: &Fields) -> Result<Value
 {
     let mut shown = Value::Object(Map::new(alloc));
     for row in rows {
-        shown = match with_row(alloc, shown, row, fields) {
-            Ok(shown) => shown,
-            Err(_) => return Err(Memory),
-        };
+        shown = with_row(alloc, shown, row, fields)?;
     }
     Ok(shown)
 }

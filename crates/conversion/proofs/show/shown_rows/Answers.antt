@@ -23,5 +23,5 @@ loop-row-preserved c =
     let some = some_path row.path (subst (λ (r : FieldRow). 0 < length r.path) (sym c.row-item.is) (c.requires.lawful.each i row within).path.0.some) in
     let typed = subst (λ (r : FieldRow). IfSome (value_at c.args.fields.now r.id) (IsValueOf r.ty)) (sym c.row-item.is) (c.requires.fits.each i row within) in
     let next : take (i + 1) rows ≡ take i rows ++ row ∷ [] = take_more rows i row within ∙ ap (λ (r : FieldRow). take i rows ++ r ∷ []) (sym c.row-item.is) in
-    subst (λ rs. Shows rs c.args.fields.now (view c.in-Ok.shown)) (sym next)
-    (shows_more (take i rows) c.args.fields.now row (view c.loop-row.shown) (view c.in-Ok.shown) c.loop-row.invariant (before_apart rows i row c.requires.lawful.apart within c.row-item.is) some typed c.in-Ok.ensures)
+    subst (λ rs. Shows rs c.args.fields.now (view c.in_ok-shown.shown)) (sym next)
+    (shows_more (take i rows) c.args.fields.now row (view c.loop-row.shown) (view c.in_ok-shown.shown) c.loop-row.invariant (before_apart rows i row c.requires.lawful.apart within c.row-item.is) some typed c.in_ok-shown.ensures)
