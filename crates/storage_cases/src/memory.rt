@@ -1,4 +1,6 @@
 //! Cases of a disk in memory, which holds `x`, `abc` and nothing at first.
+ghost use Rattle.std.specs.Prelude.{◌≡◌, length};
+ghost use Rattle.disk.specs.MemDisk.{mem_held};
 
 use crate::calls::{Call, call_of, done_or_failed, number_at};
 use basis::Memory;
@@ -28,22 +30,24 @@ fn start(alloc: Global, fails: &str) -> Result<MemDisk, Memory> {
     )
 }
 
-fn length(disk: &MemDisk, file: File) -> u64 {
+fn held_length(disk: &MemDisk, file: File) -> u64
+    ensures { result ≡ length (mem_held disk.now file) }
+{
     disk.held_bytes(file).len() as u64
 }
 
 fn is_written(disk: &mut MemDisk, call: &Call<'_>) -> bool {
-    call.at <= length(disk, call.file) && disk.write_at(call.file, call.at, call.bytes).is_ok()
+    call.at <= held_length(disk, call.file) && disk.write_at(call.file, call.at, call.bytes).is_ok()
 }
 
 fn is_cut(disk: &mut MemDisk, call: &Call<'_>) -> bool {
-    call.at <= length(disk, call.file) && disk.cut(call.file, call.at).is_ok()
+    call.at <= held_length(disk, call.file) && disk.cut(call.file, call.at).is_ok()
 }
 
 // Whether two bytes are read as they should.
 fn is_read(disk: &mut MemDisk, call: &Call<'_>) -> bool {
     let mut two = [0; 2];
-    if length(disk, call.file) < 2 || call.at > length(disk, call.file) - 2 {
+    if held_length(disk, call.file) < 2 || call.at > held_length(disk, call.file) - 2 {
         return false;
     }
     disk.read_at(call.file, call.at, &mut two).is_ok() && two.as_slice() == call.bytes

@@ -3,7 +3,7 @@ use Rattle.std.specs.Prelude.{Result, Ok, Err, OnOk, is_ok}
 use Rattle.std.proofs.lemmas.Bool.{false≢true}
 use Rattle.disk.specs.MemDisk.{mem_held, mem_pending}
 use Rattle.object_store.proofs.StoreLaws.{recalled, with_room, may_with_room}
-use Rattle.object_store.proofs.CommitLemmas.{at_ok}
+use Rattle.object_journal.proofs.StopLemmas.{at_ok}
 use Rattle.storage_cases.proofs.store.put_of.Goals as goal
 
 pub commit-requires-clause-may : goal.commit-requires-clause-may
@@ -24,5 +24,5 @@ returns c = λ done.
     let old = c.args.store.now in
     let new = c.ready_put.new.self in
     let is = c.in-Ok.ensures.spare in
-    let stands = at_ok c.commit.result _ (sym c.is_ok.ensures.value ∙ done) c.commit.ensures.stands in
+    let stands = at_ok c.commit.result _ c.commit.ensures.stands (sym c.is_ok.ensures.value ∙ done) in
     (entries ++ c.in-Ok.ready ∷ [], stands entries (with_room (Unit {0}) held pending old new entries is h) (may_with_room old new entries c.in-Ok.ready is (c.in-Ok.ensures.may entries (recalled (Unit {0}) held pending old entries h))))
