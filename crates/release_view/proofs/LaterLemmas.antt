@@ -16,6 +16,7 @@ use Rattle.row_index.proofs.RowLemmas.{gate_decided}
 use Rattle.schemas.specs.Dated.{Dated}
 use Rattle.schemas.specs.Laws.{AreThoseThere}
 use Rattle.schemas.specs.Rows.{IsRow, AreRows, AreRowsAt}
+use Rattle.schemas.proofs.AcceptedLemmas as hr
 use Rattle.schemas.proofs.FieldLawLemmas.{stays_decodable}
 use Rattle.schemas.proofs.LawLemmas.{kinds_stay_live}
 use Rattle.schemas.proofs.RowLemmas.{kept_at}
@@ -68,7 +69,7 @@ module _ (history : Dated) (back view : Viewed) (one : AreOfOneHistory history b
 
   live_read : (name : GroupVersionResource) → live (cutoff history.apis back.minor) name ≡ true → IsSome (table_in view.versions name)
   live_read name lives =
-      (later.decodes name).1 (stays_decodable history.apis one.accepted.forgettings_late name back.minor view.minor one.not_above one.near ((live_dated history.apis name back.minor).0 lives))
+      (later.decodes name).1 (stays_decodable history.apis (hr.forgettings_late history one.accepted) name back.minor view.minor one.not_above one.near ((live_dated history.apis name back.minor).0 lives))
 
   kind_stays : (group resource : List ℕ) → has_live back.versions group resource ≡ true → has_live view.versions group resource ≡ true
   kind_stays group resource lives =
