@@ -1,11 +1,11 @@
 -- What the words give to options.
-use Rattle.std.proofs.Common.{◌≡◌, ◌≢◌, ℕ, ◌+◌, ◌<◌, ◌&&◌, ◌||◌, Bool, true, false, List, [], ◌∷◌, ◌++◌, length, get_or, take, drop, eqb, cond, Option, Some, None, IfSome, IfNone, is_some, Bor, refl, sym, ◌∙◌, ap, ap₂, arith, append-nil}
+use Rattle.std.proofs.Common.{◌≡◌, ◌≢◌, ℕ, ◌+◌, ◌<◌, ◌&&◌, ◌||◌, Bool, true, false, List, [], ◌∷◌, ◌++◌, length, get_or, take, drop, eqb, cond, Option, Some, None, IfSome, IfNone, is_some, Bor, refl, sym, subst, ◌∙◌, ap, ap₂, arith, append-nil}
 use Rattle.std.specs.List.{list_any, list_all}
 use Rattle.std.proofs.lemmas.Bool.{eqb-true}
 use Rattle.std.proofs.lemmas.List.{take-append-drop, take_more, map-append}
 use Rattle.std.proofs.lemmas.List.Elements.{filter_map-append}
 use Rattle.std.specs.Option.{option_to_list}
-use Rattle.emu_server.specs.Words.{texts_of, text_of, behind, values_of, gives_one}
+use Rattle.emu_server.specs.Words.{texts_of, text_of, behind, values_of, gives_one, Setting, Gives, GivesBoth, GivesThree, Asks, AsksBoth, AsksThree}
 
 -- ---- one word
 
@@ -82,3 +82,51 @@ module _ (name : List ℕ) (words : List (Bor (List ℕ))) (i : ℕ) (d : Bor (L
       by None e y k = cc
       by (Some u) e None k = cc
       by (Some u) e (Some y) k = cc
+
+-- ---- the name of a command, and its options
+
+abbrev behind_first : List (List ℕ) → List (List ℕ)
+behind_first [] = []
+behind_first (word ∷ words) = words
+
+given_once : (words : List (List ℕ)) (a b : List ℕ) (xs ys : List (List ℕ)) → words ≡ a ∷ xs → words ≡ b ∷ ys → xs ≡ ys
+given_once words a b xs ys h k = ap behind_first (sym h ∙ k)
+
+-- words that begin with the name ask for no more than what stands behind it gives
+pub not_asked : (words given : List (List ℕ)) (name : List ℕ) (options : List Setting) → words ≡ name ∷ given
+    → ¬ Gives given options → ¬ Asks words name options
+not_asked words given name options named none asks =
+    none (subst (λ g. Gives g options) (given_once words name name asks.given given asks.named named) asks.gives)
+
+pub none-weaker : {T : Type 0} {P Q : Type 0} (r : Option T) → (P → Q) → IfNone r P → IfNone r Q
+none-weaker None f h = f h
+none-weaker (Some v) f h = tt
+
+abbrev first_in : List (List ℕ) → Option (List ℕ)
+first_in [] = None
+first_in (value ∷ values) = Some value
+
+first_back : (o : Option (List ℕ)) → first_in (option_to_list o) ≡ o
+first_back None = refl
+first_back (Some v) = refl
+
+value_once : (values : List (List ℕ)) (o p : Option (List ℕ)) → values ≡ option_to_list o → values ≡ option_to_list p → o ≡ p
+value_once values o p h k = sym (first_back o) ∙ ap first_in (sym h ∙ k) ∙ first_back p
+
+-- words give an option one value
+pub both_once : (words : List (List ℕ)) (name a b : List ℕ) (x y x' y' : Option (List ℕ)) → AsksBoth words name a b x y
+    → AsksBoth words name a b x' y' → (x ≡ x') × (y ≡ y')
+both_once words name a b x y x' y' h k =
+    let same : h.given ≡ k.given = given_once words name name h.given k.given h.named k.named in
+    let g : GivesBoth k.given a b x y = subst (λ w. GivesBoth w a b x y) same h.gives in
+    (value_once (values_of a k.given) x x' g.once.0 k.gives.once.0, value_once (values_of b k.given) y y' g.once.1.0 k.gives.once.1.0)
+
+pub three_once : (words : List (List ℕ)) (name a b c : List ℕ) (x y z x' y' z' : Option (List ℕ)) → AsksThree words name a b c x y z
+    → AsksThree words name a b c x' y' z' → (x ≡ x') × (y ≡ y') × (z ≡ z')
+three_once words name a b c x y z x' y' z' h k =
+    let same : h.given ≡ k.given = given_once words name name h.given k.given h.named k.named in
+    let g : GivesThree k.given a b c x y z = subst (λ w. GivesThree w a b c x y z) same h.gives in (
+      value_once (values_of a k.given) x x' g.once.0 k.gives.once.0,
+      value_once (values_of b k.given) y y' g.once.1.0 k.gives.once.1.0,
+      value_once (values_of c k.given) z z' g.once.1.1.0 k.gives.once.1.1.0,
+    )

@@ -4,11 +4,11 @@ use Rattle.std.specs.declared.option.Option.{Option}
 use Rattle.std.specs.Io.KnownBytes.{Keeps, Appends, Consumes}
 use Rattle.emu_server.specs.declared.status.Status.{Status}
 use Rattle.emu_server.specs.declared.status.Status.TheVariants as status
-use Rattle.emu_server.specs.declared.words.Command.{Command}
+use Rattle.emu_server.specs.declared.commands.Command.{Command}
 use Rattle.emu_server.specs.Answer.{IsAnswer}
 use Rattle.emu_server.specs.Lines.{read_fault_line}
 use Rattle.outside.specs.Streams.{AppendsFront}
-use Rattle.emu_server.specs.Words.{AsksFor}
+use Rattle.emu_server.specs.Commands.{AsksFor}
 
 -- the words are of a command
 abbrev pub IsCommandLine : List (List ℕ) → Type 0

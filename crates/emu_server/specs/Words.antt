@@ -4,8 +4,6 @@ use Rattle.std.specs.List.{AllByRecursion, filter_map, list_any, list_all}
 use Rattle.std.specs.Option.{option_to_list}
 use Rattle.std.specs.Borrow.{Bor}
 use Rattle.std.specs.declared.option.Option.{Option}
-use Rattle.emu_server.specs.declared.words.Command.{Command}
-use Rattle.emu_server.specs.declared.words.Command.TheVariants.{Discover, Gates, Convert, Check}
 
 -- the texts of the words
 abbrev pub texts_of : List (Bor (List ℕ)) → List (List ℕ)
@@ -67,22 +65,18 @@ GivesBoth words first second x y = Gives words (setting first x ∷ setting seco
 abbrev pub GivesThree : List (List ℕ) → List ℕ → List ℕ → List ℕ → Option (List ℕ) → Option (List ℕ) → Option (List ℕ) → Type 0
 GivesThree words first second third x y z = Gives words (setting first x ∷ setting second y ∷ setting third z ∷ [])
 
--- the word that names the command
-abbrev pub command_name : Command → List ℕ
-command_name (Discover emulated runtime) = codes "discover"
-command_name (Gates emulated features) = codes "gates"
-command_name (Convert emulated json to) = codes "convert"
-command_name Check = codes "check"
+-- the words are the name of a command, and behind it these options
+pub record Asks (words : List (List ℕ)) (name : List ℕ) (options : List Setting) : Type 0 where
+  pub given : List (List ℕ)
+  pub named : words ≡ name ∷ given
+  pub gives : Gives given options
 
--- the words are the options of the command
-abbrev pub GivesOptions : List (List ℕ) → Command → Type 0
-GivesOptions words (Discover emulated runtime) = GivesBoth words emulated_version runtime_config (text_of emulated) (text_of runtime)
-GivesOptions words (Gates emulated features) = GivesBoth words emulated_version feature_gates (text_of emulated) (text_of features)
-GivesOptions words (Convert emulated json to) = GivesThree words emulated_version object_option to_option (text_of emulated) (Some json.now) (Some to.now)
-GivesOptions words Check = words ≡ []
+abbrev pub AsksBoth :
+    List (List ℕ) → List ℕ → List ℕ → List ℕ → Option (List ℕ) → Option (List ℕ) → Type 0
+AsksBoth words name first second x y = Asks words name (setting first x ∷ setting second y ∷ [])
 
--- the words ask for this command
-pub record AsksFor (words : List (List ℕ)) (c : Command) : Type 0 where
-  pub options : List (List ℕ)
-  pub named : words ≡ command_name c ∷ options
-  pub given_so : GivesOptions options c
+abbrev pub AsksThree :
+    List (List ℕ) → List ℕ → List ℕ → List ℕ → List ℕ
+    → Option (List ℕ) → Option (List ℕ) → Option (List ℕ) → Type 0
+AsksThree words name first second third x y z =
+    Asks words name (setting first x ∷ setting second y ∷ setting third z ∷ [])

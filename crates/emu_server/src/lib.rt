@@ -2,14 +2,13 @@
 #![tactic(auto)]
 
 mod answer;
+mod commands;
 mod emulated;
-mod gates;
-mod groups;
-mod lines;
-mod objects;
+mod refusals;
 mod run;
 mod status;
 mod taking;
+mod views;
 mod words;
 
 pub use disk::{FailList, Failed};

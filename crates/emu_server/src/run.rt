@@ -7,10 +7,10 @@ ghost use Rattle.emu_server.specs.Words.{texts_of};
 ghost use Rattle.emu_server.specs.Written.{IsWritten};
 ghost use Rattle.outside.specs.Streams.{AppendsFront};
 
-use crate::answer::answer_to;
+use crate::commands::read_words;
+use crate::refusals::answer_to;
 use crate::status::Status;
 use crate::taking::{TakeFault, take_history};
-use crate::words::read_words;
 use history_reader::LONGEST_DOCUMENT;
 use outside::{Sink, Source};
 use std::alloc::Global;

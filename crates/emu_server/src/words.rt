@@ -1,49 +1,25 @@
 //! The words of the command line.
-ghost use Rattle.std.specs.Prelude.{◌≡◌, ◌≢◌, ◌++◌, ◌∷◌, [], ℕ, List, IfSome, IfNone, codes, is_some};
+ghost use Rattle.std.specs.Prelude.{◌≡◌, ◌≢◌, ◌++◌, ◌∷◌, [], ℕ, List, IfSome, IfNone, is_some, unwrap_or};
 ghost use Rattle.std.specs.List.{list_any, list_all};
 ghost use Rattle.std.specs.Option.{option_to_list};
 ghost use Rattle.std.specs.declared.option.Option.{Option as TheOption};
-ghost use Rattle.emu_server.specs.Words.{AsksFor, GivesBoth, GivesThree, gives_one, GivesOptions, behind, command_name, texts_of, text_of, values_of};
-ghost use Rattle.emu_server.specs.declared.words.Command.{Command as TheCommand};
+ghost use Rattle.emu_server.specs.Words.{AsksBoth, AsksThree, GivesBoth, GivesThree, gives_one, behind, texts_of, text_of, values_of};
 
-const EMULATED_VERSION: &str = "--emulated-version=";
+pub const EMULATED_VERSION: &str = "--emulated-version=";
 
-const FEATURE_GATES: &str = "--feature-gates=";
+pub const FEATURE_GATES: &str = "--feature-gates=";
 
-const RUNTIME_CONFIG: &str = "--runtime-config=";
+pub const RUNTIME_CONFIG: &str = "--runtime-config=";
 
-const OBJECT: &str = "--object=";
+pub const OBJECT: &str = "--object=";
 
-const TO: &str = "--to=";
-
-/// What the words ask for.
-#[derive(Clone, Copy, Debug)]
-pub enum Command<'a> {
-    /// The group list of a release under a runtime configuration.
-    Discover {
-        emulated: Option<&'a str>,
-        runtime: Option<&'a str>,
-    },
-    /// The feature gates of a release, set by a text.
-    Gates {
-        emulated: Option<&'a str>,
-        features: Option<&'a str>,
-    },
-    /// An object in another version of its resource.
-    Convert {
-        emulated: Option<&'a str>,
-        object: &'a str,
-        to: &'a str,
-    },
-    /// Whether the history is accepted.
-    Check,
-}
+pub const TO: &str = "--to=";
 
 /// The values that two options may have.
-type Two<'a> = (Option<&'a str>, Option<&'a str>);
+pub type Two<'a> = (Option<&'a str>, Option<&'a str>);
 
 /// The values that three options may have.
-type Three<'a> = (Option<&'a str>, Option<&'a str>, Option<&'a str>);
+pub type Three<'a> = (Option<&'a str>, Option<&'a str>, Option<&'a str>);
 
 fn stripped<'a>(word: &'a str, name: &str) -> Option<&'a str>
     ensures some { IfSome result (λ v. word.now ≡ name.now ++ v.now) }
@@ -91,7 +67,7 @@ fn give_options(words: &[&str], names: &[&str]) -> bool
 }
 
 /// The values of the two options that the words may give, in any order.
-fn two_options<'a>(words: &[&'a str], first: &str, second: &str) -> Option<Two<'a>>
+fn both_values<'a>(words: &[&'a str], first: &str, second: &str) -> Option<Two<'a>>
     ensures some { IfSome result (λ o. GivesBoth (texts_of words.now) first.now second.now (text_of o.0) (text_of o.1)) }
     ensures none { IfNone result ((x y : TheOption (List ℕ)) → ¬ GivesBoth (texts_of words.now) first.now second.now x y) }
 {
@@ -108,7 +84,7 @@ fn two_options<'a>(words: &[&'a str], first: &str, second: &str) -> Option<Two<'
 }
 
 /// The values of the three options that the words may give, in any order.
-fn three_options<'a>(words: &[&'a str], first: &str, second: &str, third: &str) -> Option<Three<'a>>
+fn three_values<'a>(words: &[&'a str], first: &str, second: &str, third: &str) -> Option<Three<'a>>
     ensures some { IfSome result (λ o. GivesThree (texts_of words.now) first.now second.now third.now (text_of o.0) (text_of o.1) (text_of o.2)) }
     ensures none { IfNone result ((x y z : TheOption (List ℕ)) → ¬ GivesThree (texts_of words.now) first.now second.now third.now x y z) }
 {
@@ -127,71 +103,56 @@ fn three_options<'a>(words: &[&'a str], first: &str, second: &str, third: &str) 
     }
 }
 
-fn discover<'a>(options: &[&'a str]) -> Option<Command<'a>>
-    ensures some { IfSome result (λ c. (command_name c ≡ codes "discover") × GivesOptions (texts_of options.now) c) }
-    ensures none { IfNone result ((c : TheCommand) → command_name c ≡ codes "discover" → ¬ GivesOptions (texts_of options.now) c) }
-{
-    match two_options(options, EMULATED_VERSION, RUNTIME_CONFIG) {
-        Some((emulated, runtime)) => Some(Command::Discover { emulated, runtime }),
-        None => None,
-    }
-}
-
-fn gates<'a>(options: &[&'a str]) -> Option<Command<'a>>
-    ensures some { IfSome result (λ c. (command_name c ≡ codes "gates") × GivesOptions (texts_of options.now) c) }
-    ensures none { IfNone result ((c : TheCommand) → command_name c ≡ codes "gates" → ¬ GivesOptions (texts_of options.now) c) }
-{
-    match two_options(options, EMULATED_VERSION, FEATURE_GATES) {
-        Some((emulated, features)) => Some(Command::Gates { emulated, features }),
-        None => None,
-    }
-}
-
-fn convert<'a>(options: &[&'a str]) -> Option<Command<'a>>
-    ensures some { IfSome result (λ c. (command_name c ≡ codes "convert") × GivesOptions (texts_of options.now) c) }
-    ensures none { IfNone result ((c : TheCommand) → command_name c ≡ codes "convert" → ¬ GivesOptions (texts_of options.now) c) }
-{
-    let Some((emulated, object, to)) = three_options(options, EMULATED_VERSION, OBJECT, TO) else {
-        return None;
-    };
-    let Some(object) = object else {
-        return None;
-    };
-    match to {
-        Some(to) => Some(Command::Convert {
-            emulated,
-            object,
-            to,
-        }),
-        None => None,
-    }
-}
-
-fn check<'a>(options: &[&'a str]) -> Option<Command<'a>>
-    ensures some { IfSome result (λ c. (command_name c ≡ codes "check") × GivesOptions (texts_of options.now) c) }
-    ensures none { IfNone result ((c : TheCommand) → command_name c ≡ codes "check" → ¬ GivesOptions (texts_of options.now) c) }
-{
-    if options.is_empty() {
-        Some(Command::Check)
-    } else {
-        None
-    }
-}
-
-/// The command that the words ask for.
-pub fn read_words<'a>(words: &[&'a str]) -> Option<Command<'a>>
-    ensures some { IfSome result (AsksFor (texts_of words.now)) }
-    ensures none { IfNone result ((c : TheCommand) → ¬ AsksFor (texts_of words.now) c) }
+/// What stands behind the name of a command, where the words begin with it.
+pub fn options_of<'w, 'a>(words: &'w [&'a str], name: &str) -> Option<&'w [&'a str]>
+    ensures some { IfSome result (λ o. texts_of words.now ≡ name.now ∷ texts_of o.now) }
+    ensures none { IfNone result ((o : List (List ℕ)) → texts_of words.now ≢ name.now ∷ o) }
 {
     if words.is_empty() {
         return None;
     }
     let (_, options) = words.split_at(1);
-    match words[0] {
-        "discover" => discover(options),
-        "gates" => gates(options),
-        "convert" => convert(options),
-        "check" => check(options),
-        _ => None,
+    if words[0] == name {
+        Some(options)
+    } else {
+        None
+    }
+}
+
+/// The values of the two options that a command may have, where the words ask for it.
+pub fn two_options<'a>(words: &[&'a str], name: &str, first: &str, second: &str) -> Option<Two<'a>>
+    ensures some { IfSome result (λ o. AsksBoth (texts_of words.now) name.now first.now second.now (text_of o.0) (text_of o.1)) }
+    ensures none { IfNone result ((x y : TheOption (List ℕ)) → ¬ AsksBoth (texts_of words.now) name.now first.now second.now x y) }
+{
+    match options_of(words, name) {
+        Some(options) => both_values(options, first, second),
+        None => None,
+    }
+}
+
+/// The values of the three options that a command may have, where the words ask for it.
+pub fn three_options<'a>(
+    words: &[&'a str],
+    name: &str,
+    first: &str,
+    second: &str,
+    third: &str,
+) -> Option<Three<'a>>
+    ensures some { IfSome result (λ o. AsksThree (texts_of words.now) name.now first.now second.now third.now (text_of o.0) (text_of o.1) (text_of o.2)) }
+    ensures none { IfNone result ((x y z : TheOption (List ℕ)) → ¬ AsksThree (texts_of words.now) name.now first.now second.now third.now x y z) }
+{
+    match options_of(words, name) {
+        Some(options) => three_values(options, first, second, third),
+        None => None,
+    }
+}
+
+/// The text, or the empty one.
+pub fn text_or_empty(text: Option<&str>) -> &str
+    ensures { result.now ≡ unwrap_or (text_of text.entry) [] }
+{
+    match text {
+        Some(text) => text,
+        None => "",
     }
 }

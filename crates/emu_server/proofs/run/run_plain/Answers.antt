@@ -1,12 +1,12 @@
 -- The end is right for the bytes that the source held.
-use Rattle.std.proofs.Common.{rules, [], sym, subst, string_bytes, refl, arith}
+use Rattle.std.proofs.Common.{rules, inl, [], sym, subst, string_bytes, refl, arith}
 use Rattle.std.proofs.KnownBytes.{Keeps-refl}
 use Rattle.emu_server.specs.Answer.{IsAnswerTo}
 use Rattle.emu_server.proofs.TopLemmas.{held, held-known, answer_ends, taken_ends, read_fault_ends}
 use Rattle.emu_server.proofs.run.run_plain.Goals as goal
 
 pub returns-in_default-clause-ends : goal.returns-in_default-clause-ends
-returns-in_default-clause-ends g c = (held (g.S.Source.left c.args.history.now) [], held-known _ _, answer_ends _ _ _ _ _ _ _ _ (c.in_default.ensures.none, refl) c.end_with.ensures.written)
+returns-in_default-clause-ends g c = (held (g.S.Source.left c.args.history.now) [], held-known _ _, answer_ends _ _ _ _ _ _ _ _ (inl (refl, c.in_default.ensures.none, refl)) c.end_with.ensures.written)
 
 pub returns-in-Ok-answer_to-clause-ends : goal.returns-in-Ok-answer_to-clause-ends
 returns-in-Ok-answer_to-clause-ends g c =
