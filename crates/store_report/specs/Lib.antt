@@ -1,1 +1,2 @@
+-- Report: what is said of a store, or of why it isn't opened.
 pub mod Report
