@@ -1,5 +1,6 @@
 -- The words of a command line.
-use Rattle.std.specs.Prelude.{ℕ, ◌≡◌, ◌==◌, List, [], ◌∷◌, Bool, true, map, codes, Some, None, option_map, is_some, if◌then◌else◌}
+use Rattle.std.specs.Prelude.{ℕ, ◌≡◌, ◌==◌, List, [], ◌∷◌, Bool, true, map, codes}
+use Rattle.std.specs.Prelude.{Some, None, option_map, is_some, if◌then◌else◌}
 use Rattle.std.specs.List.{AllByRecursion, filter_map, list_any, list_all}
 use Rattle.std.specs.Option.{option_to_list}
 use Rattle.std.specs.Borrow.{Bor}
@@ -62,8 +63,10 @@ pub record Gives (words : List (List ℕ)) (options : List Setting) : Type 0 whe
 abbrev pub GivesBoth : List (List ℕ) → List ℕ → List ℕ → Option (List ℕ) → Option (List ℕ) → Type 0
 GivesBoth words first second x y = Gives words (setting first x ∷ setting second y ∷ [])
 
-abbrev pub GivesThree : List (List ℕ) → List ℕ → List ℕ → List ℕ → Option (List ℕ) → Option (List ℕ) → Option (List ℕ) → Type 0
-GivesThree words first second third x y z = Gives words (setting first x ∷ setting second y ∷ setting third z ∷ [])
+abbrev pub GivesThree :
+    List (List ℕ) → List ℕ → List ℕ → List ℕ → Option (List ℕ) → Option (List ℕ) → Option (List ℕ) → Type 0
+GivesThree words first second third x y z =
+    Gives words (setting first x ∷ setting second y ∷ setting third z ∷ [])
 
 -- the words are the name of a command, and behind it these options
 pub record Asks (words : List (List ℕ)) (name : List ℕ) (options : List Setting) : Type 0 where
