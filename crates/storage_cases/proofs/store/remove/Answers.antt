@@ -1,6 +1,4 @@
-use Rattle.std.proofs.Common.{◌≡◌, Bool, true, List, [], ◌∷◌, ◌++◌, sym, ◌∙◌}
-use Rattle.std.specs.Prelude.{Result, Ok, Err, OnOk, is_ok}
-use Rattle.std.proofs.lemmas.Bool.{false≢true}
+use Rattle.std.proofs.Common.{[], ◌∷◌, ◌++◌, sym, ◌∙◌}
 use Rattle.disk.specs.MemDisk.{mem_held, mem_pending}
 use Rattle.object_store.proofs.StoreLaws.{recalled, with_room, may_with_room}
 use Rattle.object_journal.proofs.StopLemmas.{at_ok}
