@@ -1,7 +1,6 @@
 -- What a stop in a commit leaves.
 use Rattle.std.proofs.Common.{◌≡◌, inl, inr, ⊎_elim, ℕ, ◌+◌, List, [], ◌∷◌, ◌++◌, sym, subst, arith}
-use Rattle.std.specs.Prelude.{Result, Ok, Err, IfOk, OnOk, is_ok, true}
-use Rattle.std.proofs.lemmas.Bool.{false≢true}
+use Rattle.std.specs.Prelude.{Result, Ok, Err, IfOk}
 use Rattle.disk.specs.declared.file.File.{File}
 use Rattle.disk.specs.Images.{Pending, Images}
 use Rattle.object_journal.specs.declared.entry.Entry.{Entry}
@@ -52,7 +51,3 @@ pub leaves_commit : (tells : Type 0) (held : Images) (pending : File → Pending
 leaves_commit tells held pending s j entries f e i is framed h may w =
     let either = w entries (stands_inside tells held pending s j entries is h) (follows_inside s j entries f e is framed may) in
     leaves_records pending s entries e i h.stands.revision h.records may (subst (λ (p : Journal × Entry). LeavesEither pending p.0.base entries p.1 i) (λ k. (is k, framed k)) either)
-
-pub at_ok : {T E : Type 0} (r : Result T E) (P : Type 0) → is_ok r ≡ true → OnOk r P → P
-at_ok (Ok x) P ok p = p
-at_ok (Err e) P ok p = absurd (false≢true ok)
