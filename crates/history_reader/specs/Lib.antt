@@ -13,6 +13,7 @@ pub mod Tree
 pub mod Words
 pub mod Demands
 pub mod Rows
+pub mod TableRows
 pub mod Tests
 pub mod Faults
 pub mod Meaning

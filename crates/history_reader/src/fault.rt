@@ -7,9 +7,10 @@ ghost use Rattle.history_reader.specs.Tree.{tables_in};
 ghost use Rattle.history_reader.specs.Demands.{AreTables};
 ghost use Rattle.history_reader.specs.Tests.{Passes, IsFirstFault, row_test, is_named, table_tests, entry_tests, document_tests};
 ghost use Rattle.history_reader.specs.Faults.{place_of};
+ghost use Rattle.history_reader.specs.TableRows.{rows_in};
 
 use crate::demand::meets;
-use crate::rows::{ENTRY_ARRAYS, Row, rows_of_table};
+use crate::rows::{ENTRY_ARRAYS, Row, TableRows, rows_of_table};
 use crate::tree::{items_of_array, table_of, value_of};
 use schemas::Array;
 use toml::{Table, Value};
@@ -47,13 +48,34 @@ fn has_row(rows: &[Row], name: &str) -> bool
     rows.iter().any(|row| row.0.name() == name)
 }
 
-/// The first member, in byte order, that no row names.
-fn unknown_member<'a>(rows: &[Row], table: &'a Table) -> Option<&'a str>
-    ensures { option_map (λ s. s.now) result ≡ option_map string_bytes (find (λ k. not (is_named rows.now (string_bytes k))) (keys table.now)) }
+/// Whether a row of the table is of the member with this name.
+fn is_member(rows: TableRows, name: &str) -> bool
+    ensures { result ≡ is_named (rows_in rows) name.now }
 {
-    match table.keys().find(|key| !has_row(rows, key.as_str())) {
+    has_row(rows.common, name) || has_row(rows.own, name)
+}
+
+/// The first member, in byte order, that no row names.
+fn unknown_member<'a>(rows: TableRows, table: &'a Table) -> Option<&'a str>
+    ensures { option_map (λ s. s.now) result
+        ≡ option_map string_bytes (find (λ k. not (is_named (rows_in rows) (string_bytes k))) (keys table.now)) }
+{
+    match table.keys().find(|key| !is_member(rows, key.as_str())) {
         Some(key) => Some(key.as_str()),
         None => None,
+    }
+}
+
+/// The first member, in the order of the table's rows, that doesn't hold what its row demands.
+fn known_fault<'a>(array: Array, index: u64, rows: TableRows, table: &'a Table) -> Option<Fault<'a>>
+    ensures some { IfSome result (λ f.
+        IsFirstFault (map (row_test array index (table_view table.now)) (rows_in rows)) (place_of f)) }
+    ensures none { IfNone result
+        (AllByRecursion Passes (map (row_test array index (table_view table.now)) (rows_in rows))) }
+{
+    match row_fault(array, index, rows.common, table) {
+        Some(fault) => Some(fault),
+        None => row_fault(array, index, rows.own, table),
     }
 }
 
@@ -63,7 +85,7 @@ fn table_fault<'a>(array: Array, index: u64, table: &'a Table) -> Option<Fault<'
     ensures none { IfNone result (AllByRecursion Passes (table_tests array index (table_view table.now))) }
 {
     let rows = rows_of_table(array, table);
-    match row_fault(array, index, rows, table) {
+    match known_fault(array, index, rows, table) {
         Some(fault) => Some(fault),
         None => match unknown_member(rows, table) {
             Some(member) => Some(Fault {
