@@ -1,0 +1,5 @@
+pub mod Behind
+pub mod Paths
+pub mod Replies
+pub mod Refusals
+pub mod Routes

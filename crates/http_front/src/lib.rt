@@ -1,0 +1,13 @@
+//! Requests as bytes and replies as bytes: heads and bodies, paths, and what is sent.
+#![tactic(auto)]
+
+mod path;
+mod refusal;
+mod reply;
+mod request;
+mod route;
+
+pub use refusal::refusal_body;
+pub use reply::{Page, Reply, bad_reply, reply_bytes, reply_reads_back};
+pub use request::{Length, Request, Taken, Verb};
+pub use route::{Route, path_has_one_route, route_of};
