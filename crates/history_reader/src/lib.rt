@@ -15,8 +15,6 @@ mod laws;
 mod member;
 mod read;
 mod rows;
-#[cfg(test)]
-mod tests;
 mod tree;
 mod words;
 

@@ -7,8 +7,6 @@ mod broken;
 mod history;
 mod laws;
 mod shapes;
-#[cfg(test)]
-mod tests;
 
 pub use accepted::Accepted;
 pub use array::Array;
