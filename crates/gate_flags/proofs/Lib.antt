@@ -1,3 +1,4 @@
+pub mod AnswerLemmas
 pub mod LookupLemmas
 pub mod PassLemmas
 pub mod RowLemmas
