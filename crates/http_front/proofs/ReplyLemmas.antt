@@ -2,6 +2,9 @@
 use Rattle.std.proofs.Common.{◌≡◌, ℕ, ◌<◌, ◌^◌, List, [], ◌∷◌, ◌++◌, Bool, true, false, not, ◌&&◌, ◌==◌, cond, Option, Some, None, length, decimal, refl, sym, ◌∙◌, ap, arith, append_assoc}
 use Rattle.std.specs.Prelude.{◌≢◌, Contains, IfSome, codes}
 use Rattle.std.specs.List.{AllByRecursion, list_all}
+use Rattle.std.proofs.Common.{drop}
+use Rattle.std.proofs.lemmas.Fmt.{decimal_is_IsNumeral}
+use Rattle.std.specs.Str.Parse.{digits_value}
 use Rattle.std.specs.Str.{all_ascii_digits}
 use Rattle.std.specs.Char.{is_ascii_digit}
 use Rattle.std.proofs.lemmas.Grind.{flat_map-append}
@@ -11,7 +14,7 @@ use Rattle.std.proofs.lemmas.List.Sums.{list_all-from_AllPass}
 use Rattle.std.proofs.lemmas.List.Elements.{recursion_from_All, All-from_recursion, All-contains}
 use Rattle.http_header.specs.FieldValue.{IsVisibleAscii}
 use Rattle.http_header.specs.Token.{is_visible_or_blank}
-use Rattle.lifecycle.proofs.DigitLemmas.{all_ascii_digits-decimal}
+use Rattle.lifecycle.proofs.DigitLemmas.{all_ascii_digits-decimal, one_split}
 use Rattle.http_front.specs.declared.reply.Page.{Page}
 use Rattle.http_front.specs.declared.reply.Page.TheVariants.{Json, Metrics}
 use Rattle.http_front.specs.declared.reply.Reply.{Reply}
@@ -134,6 +137,14 @@ head_is_lines reply code body visible plain = (
   ),
 )
 
+code_told : (m n : ℕ) → m < 2 ^ 64 → n < 2 ^ 64 → status_line m ≡ status_line n → m ≡ n
+code_told m n small below e =
+    let same : decimal m ++ (32 ∷ phrase m) ≡ decimal n ++ (32 ∷ phrase n) = ap (λ (l : List ℕ). drop 9 l) e in
+    let split = one_split (decimal m) (32 ∷ phrase m) (decimal n) (32 ∷ phrase n) same (all_ascii_digits-decimal m small) refl (all_ascii_digits-decimal n below) refl in
+    let first : digits_value 10 (decimal m) ≡ m = (decimal_is_IsNumeral m small).1 in
+    let second : digits_value 10 (decimal n) ≡ n = (decimal_is_IsNumeral n below).1 in
+    sym first ∙ ap (λ (l : List ℕ). digits_value 10 l) split.0 ∙ second
+
 body_sent : (bare : Bool) (body : List ℕ) → bare ≡ false → body ≡ cond bare [] body
 body_sent true body e = absurd (false≢true (sym e))
 body_sent false body e = refl
@@ -150,6 +161,7 @@ reads_back reply code body visible plain =
           let once = message_once (head_lines reply) others (sent_body reply) rest lines
           (are_lines others (recursion_from_All (λ line. 0 < length line) others h.some) (recursion_from_All IsPlain others h.plain)) h.whole in
           (sym once.0, sym once.1);
+      told = λ other below same. code_told other reply.code (omega (arith, below)) code same;
       counted = λ sent. (2, omega arith, ap length_line (body_sent reply.bare reply.body sent));
     }
 

@@ -87,12 +87,13 @@ pub record HasPlainTexts (reply : Reply) : Type 0 where
   pub allow : IsPlain reply.allow
   pub warning : IfSome reply.warning IsPlain
 
--- a client reads the lines and the body of the reply and no others; where the body is sent, a line
--- tells its length
+-- a client reads the lines and the body of the reply and no others; the first line tells its code, and
+-- where the body is sent, a line tells its length
 pub record ReadsBack (reply : Reply) : Type 0 where
   pub reads : ReadsAs (reply_text reply) (head_lines reply) (sent_body reply)
   pub once : (lines : List (List ℕ)) (body : List ℕ) → ReadsAs (reply_text reply) lines body
       → (lines ≡ head_lines reply) × (body ≡ sent_body reply)
+  pub told : (code : ℕ) → code < 1000 → status_line code ≡ status_line reply.code → code ≡ reply.code
   pub counted : reply.bare ≡ false → Contains (head_lines reply) (length_line (sent_body reply))
 
 -- the reply to a head that can't be read, after which the connection closes
