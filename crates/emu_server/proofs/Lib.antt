@@ -2,3 +2,5 @@ pub mod ViewLemmas
 pub mod WordLemmas
 pub mod TopLemmas
 pub mod RangeLemmas
+pub mod ReleaseLemmas
+pub mod OneLemmas

@@ -6,6 +6,7 @@
 -- Commands: what words ask for, and the work of each command.
 -- Lines: the lines of no words, of a failed read and of a refused history.
 -- Answer: the answer to words and bytes.
+-- Laws: that words and bytes have one answer.
 -- Run: how a call ends, with its status, the bytes written and the bytes taken.
 -- Written: what a text leaves that is written with a status.
 pub mod Numbers
@@ -19,5 +20,6 @@ pub mod Convert
 pub mod Commands
 pub mod Lines
 pub mod Answer
+pub mod Laws
 pub mod Run
 pub mod Written

@@ -4,6 +4,7 @@
 mod answer;
 mod commands;
 mod emulated;
+mod law;
 mod refusals;
 mod run;
 mod status;
@@ -12,6 +13,7 @@ mod views;
 mod words;
 
 pub use disk::{FailList, Failed};
+pub use law::words_have_one_answer;
 pub use outside::{MemSink, MemSource, Sink, Source, StdSink, StdSource};
 pub use run::run_plain;
 pub use status::Status;

@@ -1,0 +1,8 @@
+//! The program `kube_emu` once more, for a stored run that ends with a status.
+#![tactic(auto)]
+
+use std::process::ExitCode;
+
+fn main(rt: HostRuntime) -> ExitCode {
+    host_run::run(&rt)
+}
