@@ -1,11 +1,10 @@
-//! The program on its host: the words of the process, standard input, standard output, and the number of the status.
+//! The program on its host: the words of the process, standard input and standard output.
 #![tactic(auto)]
 
 use emu_server::{Status, StdSink, StdSource, run_plain};
 use std::alloc::{AllocError, Global};
 use std::env;
 use std::io::ErrorKind;
-use std::process::ExitCode;
 
 fn borrowed(alloc: Global, words: &[String]) -> Result<Vec<&str>, AllocError> {
     let mut texts = Vec::new(alloc);
@@ -15,7 +14,8 @@ fn borrowed(alloc: Global, words: &[String]) -> Result<Vec<&str>, AllocError> {
     Ok(texts)
 }
 
-fn status_of(rt: &HostRuntime) -> Status {
+/// Runs the program on the words of the process and on its standard streams.
+pub fn run(rt: &HostRuntime) -> Status {
     let alloc = rt.alloc();
     let mut history = StdSource::new(rt);
     let mut out = StdSink::new(rt);
@@ -37,9 +37,4 @@ fn status_of(rt: &HostRuntime) -> Status {
         return Status::Memory;
     };
     run_plain(alloc, texts.as_slice(), &mut history, &mut out)
-}
-
-/// Runs the program on the words of the process and on its standard streams, and gives the number of the status.
-pub fn run(rt: &HostRuntime) -> ExitCode {
-    ExitCode::from(status_of(rt).number())
 }

@@ -4,5 +4,5 @@
 use std::process::ExitCode;
 
 fn main(rt: HostRuntime) -> ExitCode {
-    host_run::run(&rt)
+    ExitCode::from(host_run::run(&rt).number())
 }
