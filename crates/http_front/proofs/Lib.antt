@@ -1,3 +1,7 @@
+pub mod FrontLemmas
+pub mod ItemLemmas
+pub mod PartLemmas
 pub mod PathLemmas
 pub mod ReplyLemmas
 pub mod RouteLemmas
+pub mod TakeLemmas

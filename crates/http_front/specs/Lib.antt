@@ -1,5 +1,9 @@
 pub mod Behind
+pub mod Heads
+pub mod Items
 pub mod Paths
 pub mod Replies
 pub mod Refusals
 pub mod Routes
+pub mod Said
+pub mod Told

@@ -1,0 +1,149 @@
+//! The next request of a stream of bytes.
+ghost use Rattle.std.specs.Prelude.{◌≡◌, ◌≤◌, IfOk, length, take};
+ghost use Rattle.http_front.specs.Heads.{HasNoHead, IsFrontOf, line_feeds};
+ghost use Rattle.http_front.specs.Items.{IsTaken, SplitsOnce, KeepsItems, KeepsItem, NeedsNoMore};
+ghost use Rattle.http_front.specs.Told.{HasParts, HasSaid, IsReadAs, IsRequestWith};
+
+use crate::head::{front_of, line_feeds};
+use crate::parts::{Said, body_size, number_said, read_head, said_of};
+use crate::request::{Request, Taken};
+use basis::Memory;
+use httparse::spans::{EMPTY_HEADER_SPAN, HeaderSpan, RequestSpans};
+use minor_version::Blob;
+use std::alloc::Global;
+
+/// The most bytes that empty lines and a head have.
+const LONGEST_HEAD: usize = 16_384;
+
+/// The most line feeds that they have.
+const MOST_LINES: usize = 128;
+
+/// The request at the front of a stream, if its head and its body are complete.
+pub fn take_request(alloc: Global, buf: &[u8]) -> Result<Taken, Memory>
+    ensures { IfOk result (λ taken. IsTaken buf.now taken) }
+{
+    let near = near_part(buf);
+    match front_of(near) {
+        Some((front, head)) => take_with_head(alloc, buf, front, head),
+        None => Ok(without_head(buf, near)),
+    }
+}
+
+// The bytes in which a head must end.
+fn near_part(buf: &[u8]) -> &[u8]
+    ensures { result.now ≡ take 16384 buf.now }
+{
+    if buf.len() <= LONGEST_HEAD {
+        return buf;
+    }
+    buf.split_at(LONGEST_HEAD).0
+}
+
+// What is taken where these bytes hold no whole head.
+fn without_head(buf: &[u8], near: &[u8]) -> Taken
+    requires near { near.now ≡ take 16384 buf.now }
+    requires none { HasNoHead near.now }
+    ensures { IsTaken buf.now result }
+{
+    if buf.len() >= LONGEST_HEAD {
+        return Taken::Bad;
+    }
+    if line_feeds(near) > MOST_LINES {
+        return Taken::Bad;
+    }
+    Taken::More
+}
+
+fn take_with_head(alloc: Global, buf: &[u8], front: &[u8], head: &[u8]) -> Result<Taken, Memory>
+    requires front { IsFrontOf buf.now front.now head.now }
+    requires short { length front.now ≤ 16384 }
+    ensures { IfOk result (λ taken. IsTaken buf.now taken) }
+{
+    if line_feeds(front) > MOST_LINES {
+        return Ok(Taken::Bad);
+    }
+    let mut spans = [EMPTY_HEADER_SPAN; MOST_LINES];
+    match read_head(head, &mut spans) {
+        Some(found) => {
+            let lines = spans.split_at(found.headers).0;
+            take_with_parts(alloc, buf, front, head, lines, found)
+        }
+        None => Ok(Taken::Bad),
+    }
+}
+
+fn take_with_parts(
+    alloc: Global,
+    buf: &[u8],
+    front: &[u8],
+    head: &[u8],
+    lines: &[HeaderSpan],
+    found: RequestSpans,
+) -> Result<Taken, Memory>
+    requires front { IsFrontOf buf.now front.now head.now }
+    requires short { length front.now ≤ 16384 }
+    requires few { line_feeds front.now ≤ 128 }
+    requires within { HasParts head.now lines.now found }
+    requires read { IsReadAs head.now lines.now found }
+    ensures { IfOk result (λ taken. IsTaken buf.now taken) }
+{
+    match number_said(alloc, head, lines)? {
+        Some(number) => {
+            let said = said_of(alloc, head, lines, found, number)?;
+            take_body(alloc, buf, front, &said)
+        }
+        None => Ok(Taken::Bad),
+    }
+}
+
+fn take_body(alloc: Global, buf: &[u8], front: &[u8], said: &Said<'_>) -> Result<Taken, Memory>
+    requires { HasSaid buf.now front.now said.now }
+    ensures { IfOk result (λ taken. IsTaken buf.now taken) }
+{
+    let rest = buf.split_at(front.len()).1;
+    let size = body_size(said.length);
+    if rest.len() < size {
+        return Ok(Taken::More);
+    }
+    let (body, behind) = rest.split_at(size);
+    let request = request_with(alloc, said, body)?;
+    Ok(Taken::Whole(request, buf.len() - behind.len()))
+}
+
+fn request_with(alloc: Global, said: &Said<'_>, body: &[u8]) -> Result<Request, Memory>
+    ensures { IfOk result (λ request. IsRequestWith said.now body.now request) }
+{
+    let path = Blob::copy(alloc, said.path)?;
+    let query = Blob::copy(alloc, said.query)?;
+    let body = Blob::copy(alloc, body)?;
+    Ok(Request {
+        verb: said.verb,
+        path,
+        query,
+        length: said.length,
+        body,
+        last: said.last,
+    })
+}
+
+/// A stream splits into items in at most one way.
+pub fn stream_splits_once(stream: &[u8])
+    ensures { SplitsOnce stream.now }
+{
+    let _stream = stream;
+}
+
+/// The items of a stream stay when more bytes come, and the further ones stand behind them.
+pub fn stream_keeps_items(stream: &[u8])
+    ensures first { KeepsItem stream.now }
+    ensures all { KeepsItems stream.now }
+{
+    let _stream = stream;
+}
+
+/// A request can be taken as soon as its last byte is there.
+pub fn request_needs_no_more(stream: &[u8])
+    ensures { NeedsNoMore stream.now }
+{
+    let _stream = stream;
+}
