@@ -1,7 +1,10 @@
-//! Cases of paths and replies: a line of standard input is a question, and its answer a line of output.
+//! Cases of paths, requests and replies: a line of standard input is a question, and its answer a line of output.
 #![tactic(auto)]
 
-use http_front::{Page, Reply, Route, bad_reply, refusal_body, reply_bytes, route_of};
+use http_front::{
+    Length, Page, Reply, Request, Route, Taken, Verb, bad_reply, refusal_body, reply_bytes,
+    route_of, take_request,
+};
 use lifecycle::ApiName;
 use minor_version::{Blob, Memory, Text};
 use std::alloc::{AllocError, Global};
@@ -187,6 +190,105 @@ fn routed(alloc: Global, path: &str) -> Result<String, Memory> {
     Ok(text)
 }
 
+/// The byte that a letter behind a backslash stands for.
+fn escaped(letter: u8) -> u8 {
+    match letter {
+        b'r' => b'\r',
+        b'n' => b'\n',
+        b't' => b'\t',
+        _ => letter,
+    }
+}
+
+/// The bytes that the text means, with its line ends and tabs escaped.
+fn meant(alloc: Global, text: &str) -> Result<Vec<u8>, Memory> {
+    let mut bytes = Vec::new(alloc);
+    let mut is_escaped = false;
+    for byte in text.as_bytes() {
+        if *byte == b'\\' && !is_escaped {
+            is_escaped = true;
+            continue;
+        }
+        let byte = if is_escaped { escaped(*byte) } else { *byte };
+        is_escaped = false;
+        match bytes.push(byte) {
+            Ok(()) => {}
+            Err(_) => return Err(Memory),
+        }
+    }
+    Ok(bytes)
+}
+
+/// The text between the two others, so many times.
+fn repeated(alloc: Global, count: u16, unit: &str) -> Result<String, AllocError> {
+    let mut text = String::new(alloc);
+    for _ in 0..count {
+        match text.push_str(unit) {
+            Ok(()) => {}
+            Err(fault) => return Err(fault),
+        }
+    }
+    Ok(text)
+}
+
+fn verb_word(verb: Verb) -> &'static str {
+    match verb {
+        Verb::Get => "Get",
+        Verb::Post => "Post",
+        Verb::Put => "Put",
+        Verb::Delete => "Delete",
+        Verb::Patch => "Patch",
+        Verb::Head => "Head",
+        Verb::Other => "Other",
+    }
+}
+
+fn length_text(alloc: Global, length: Length) -> Result<String, AllocError> {
+    match length {
+        Length::Given(number) => format!(in alloc; "{number}"),
+        Length::Chunked => String::from_str(alloc, "chunked"),
+    }
+}
+
+fn request_line(alloc: Global, request: &Request, used: usize) -> Result<String, AllocError> {
+    let verb = verb_word(request.verb);
+    let path = text_of(request.path.bytes());
+    let query = text_of(request.query.bytes());
+    let length = length_text(alloc, request.length)?;
+    let body = shown(alloc, text_of(request.body.bytes()))?;
+    let last = if request.last { "last" } else { "more" };
+    let length = length.as_str();
+    let body = body.as_str();
+    format!(in alloc; "{verb} [{path}] [{query}] {length} [{body}] {last} {used}")
+}
+
+fn taken_line(alloc: Global, taken: &Taken) -> Result<String, AllocError> {
+    match taken {
+        Taken::More => String::from_str(alloc, "More"),
+        Taken::Bad => String::from_str(alloc, "Bad"),
+        Taken::Whole(request, used) => request_line(alloc, request, *used),
+    }
+}
+
+/// What is taken from the bytes that the text means.
+fn taken(alloc: Global, text: &str) -> Result<String, Memory> {
+    let bytes = meant(alloc, text)?;
+    let taken = take_request(alloc, bytes.as_slice())?;
+    let line = taken_line(alloc, &taken)?;
+    Ok(line)
+}
+
+/// The same of a count, a text, a text that stands so many times behind it, and a last text, parted by bars.
+fn taken_of_many(alloc: Global, rest: &str) -> Result<String, Memory> {
+    let (count, rest) = part(rest);
+    let (before, rest) = part(rest);
+    let (unit, after) = part(rest);
+    let units = repeated(alloc, count.parse::<u16>().unwrap_or(0), unit)?;
+    let units = units.as_str();
+    let text = format!(in alloc; "{before}{units}{after}")?;
+    taken(alloc, text.as_str())
+}
+
 fn unasked(alloc: Global) -> Result<String, Memory> {
     let text = String::from_str(alloc, "no question")?;
     Ok(text)
@@ -198,6 +300,8 @@ fn answer(alloc: Global, question: &str, rest: &str) -> Result<String, Memory> {
         "reply" => replied(alloc, rest),
         "refusal" => refusal(alloc, rest),
         "bad" => badly_replied(alloc),
+        "take" => taken(alloc, rest),
+        "take-many" => taken_of_many(alloc, rest),
         _ => unasked(alloc),
     }
 }

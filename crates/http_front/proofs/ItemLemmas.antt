@@ -1,13 +1,13 @@
 -- A stream splits into items in one way, and more bytes never change an item.
-use Rattle.std.proofs.Common.{◌≡◌, ◌⊎◌, inl, inr, ℕ, ◌+◌, ◌<◌, ◌≤◌, Bool, true, false, List, [], ◌∷◌, ◌++◌, length, drop, refl, sym, ◌∙◌, ap, subst, arith, append_assoc}
+use Rattle.std.proofs.Common.{◌≡◌, inl, inr, ℕ, ◌<◌, ◌≤◌, List, [], ◌∷◌, ◌++◌, length, refl, sym, ◌∙◌, ap, subst, arith, append_assoc}
 use Rattle.std.specs.List.{list_all}
 use Rattle.std.proofs.lemmas.List.{append-nil, length-append, nil_from_length}
 use Rattle.std.proofs.lemmas.Bool.{false≢true, cases_Bool}
-use Rattle.httparse.specs.Grammar.{LineEnd, print_blank, RequestHead, ReadsRequest}
+use Rattle.httparse.specs.Grammar.{print_blank, RequestHead, ReadsRequest}
 use Rattle.httparse.proofs.GrammarLemmas.{request_unique}
-use Rattle.http_front.specs.Heads.{IsFront, HasNoHead, front_bytes, line_feeds}
-use Rattle.http_front.specs.Said.{verb_of, path_part, query_part, head_length, is_last, says_close, body_size, length_values, is_length_text, IsSaidBy}
-use Rattle.http_front.specs.Items.{BeginsHead, HasNoEnd, EndsLate, HasManyLines, HasOtherHead, HasTwoLengths, HasBadLength, IsBad, no_end, ends_late, many_lines, other_head, two_lengths, bad_length, BeginsSoundHead, BeginsRequest, Item, taken_request, refused, IsItem, HasNoItem, is_final, IsSplit}
+use Rattle.http_front.specs.Heads.{HasNoHead, front_bytes, line_feeds}
+use Rattle.http_front.specs.Said.{verb_of, path_part, query_part, head_length, is_last, says_close, body_size, length_values, is_length_text}
+use Rattle.http_front.specs.Items.{BeginsHead, HasNoEnd, HasManyLines, IsBad, no_end, ends_late, many_lines, other_head, two_lengths, bad_length, BeginsSoundHead, BeginsRequest, Item, taken_request, refused, IsItem, is_final, IsSplit}
 use Rattle.http_front.specs.declared.request.Request.{Request}
 use Rattle.http_front.proofs.FrontLemmas.{fronts, same_length, front_once, front_longer, front_with, front_whole, line_feeds-append}
 

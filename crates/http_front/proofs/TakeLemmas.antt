@@ -1,9 +1,9 @@
 -- What is taken from a stream, by the parts and the lines of its head.
-use Rattle.std.proofs.Common.{◌≡◌, ◌⊎◌, inl, inr, ℕ, ◌+◌, ◌-◌, ◌<◌, ◌≤◌, ◌&&◌, Bool, true, false, cond, List, [], ◌∷◌, ◌++◌, Option, Some, None, All, map, length, take, drop, refl, sym, ◌∙◌, ap, subst, arith}
+use Rattle.std.proofs.Common.{◌≡◌, ◌⊎◌, inl, inr, ℕ, ◌-◌, ◌<◌, ◌≤◌, ◌&&◌, Bool, true, false, cond, List, [], ◌∷◌, ◌++◌, Some, None, All, length, take, drop, refl, sym, ◌∙◌, ap, subst, arith}
 use Rattle.std.specs.Prelude.{codes, not, ◌==◌}
 use Rattle.std.specs.List.{list_all, flat_map}
 use Rattle.std.specs.Str.Parse.{digits_value}
-use Rattle.std.proofs.lemmas.List.{append-nil, drop_all, length-append, length-drop, length-take, length-take-le, take-append-drop, take_all}
+use Rattle.std.proofs.lemmas.List.{append-nil, drop_all, length-append, length-drop, length-take-le, take-append-drop, take_all}
 use Rattle.std.proofs.Math.Seq.{drop-append_seam}
 use Rattle.httparse.specs.Grammar.{LineEnd, crlf, lf, print_end, print_blank, print_version, Field, print_field, print_section, RequestHead, print_request, ReadsRequest}
 use Rattle.httparse.specs.Spans.{IsHeaderWithin, IsRequestWithin, IsRequestOf}
@@ -11,13 +11,13 @@ use Rattle.httparse.specs.declared.spans.HeaderSpan.{HeaderSpan}
 use Rattle.httparse.specs.declared.spans.RequestSpans.{RequestSpans}
 use Rattle.httparse.proofs.GrammarLemmas.{request_unique}
 use Rattle.http1.specs.Fields.{values_named, elements_named, has_option}
-use Rattle.http_front.specs.Heads.{IsFront, HasNoHead, IsOfOneHead, IsFrontOf, front_bytes, line_feeds}
-use Rattle.http_front.specs.Said.{verb_of, path_part, query_part, header_lines, length_values, length_number, lawful_length, length_said, head_length, is_last, says_close, is_length_text, body_size}
+use Rattle.http_front.specs.Heads.{IsFront, HasNoHead, IsFrontOf, front_bytes, line_feeds}
+use Rattle.http_front.specs.Said.{verb_of, path_part, query_part, length_values, length_number, lawful_length, length_said, head_length, is_last, is_length_text, body_size}
 use Rattle.http_front.specs.Items.{BeginsHead, IsBad, no_end, many_lines, other_head, two_lengths, bad_length, BeginsSoundHead, Item, IsItem, IsTaken}
-use Rattle.http_front.specs.Told.{HasParts, IsReadAs, values_at, number_at, IsTold, HasSaid, IsRequestWith}
+use Rattle.http_front.specs.Told.{HasParts, IsReadAs, number_at, IsTold, HasSaid, IsRequestWith}
 use Rattle.http_front.specs.declared.parts.Said.{Said}
 use Rattle.http_front.specs.declared.request.Request.{Request}
-use Rattle.http_front.specs.declared.request.Taken.TheVariants.{More, Bad, Whole}
+use Rattle.http_front.specs.declared.request.Taken.TheVariants.{Whole}
 use Rattle.http_front.proofs.FrontLemmas.{front_longer, front_with, front_whole, line_feeds-append, one_head_from_none, one_head_from_front}
 use Rattle.http_front.proofs.ItemLemmas.{no_item_without_head, no_item_without_body}
 

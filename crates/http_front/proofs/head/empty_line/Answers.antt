@@ -1,4 +1,3 @@
-use Rattle.std.proofs.Common.{◌≡◌, arith}
 use Rattle.httparse.specs.Grammar.{lf, crlf}
 use Rattle.http_front.proofs.FrontLemmas.{no_line, some_line, some_crlf_line}
 use Rattle.http_front.proofs.head.empty_line.Goals as goal

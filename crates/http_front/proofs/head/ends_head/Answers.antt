@@ -1,4 +1,4 @@
-use Rattle.std.proofs.Common.{◌≡◌, refl}
+use Rattle.std.proofs.Common.{refl}
 use Rattle.http_front.proofs.FrontLemmas.{ends_lf, ends_crlf}
 use Rattle.http_front.proofs.head.ends_head.Goals as goal
 

@@ -1,4 +1,4 @@
-use Rattle.std.proofs.Common.{Bor, List, ℕ, ◌==◌, not, length, map, ap, sym, ◌∙◌}
+use Rattle.std.proofs.Common.{Bor, List, ℕ, ◌==◌, not, length, ap, sym, ◌∙◌}
 use Rattle.std.proofs.lemmas.List.{length-map}
 use Rattle.http_front.proofs.parts.is_chunked.Goals as goal
 

@@ -1,4 +1,4 @@
-use Rattle.std.proofs.Common.{◌≡◌, ◌<◌, ◌≤◌, [], length, ap, sym, ◌∙◌, rules, tests, arith, Some}
+use Rattle.std.proofs.Common.{◌≡◌, ◌<◌, [], length, ap, sym, ◌∙◌, rules, tests, arith, Some}
 use Rattle.http_front.proofs.PartLemmas.{lawful_empty, lawful_many, lawful_one, unlawful_one}
 use Rattle.http_front.proofs.parts.lawful_length.Goals as goal
 

@@ -1,4 +1,4 @@
-use Rattle.std.proofs.Common.{ℕ, ◌+◌, ◌-◌, ◌*◌, ◌<◌, ◌^◌, List, get_or, arith}
+use Rattle.std.proofs.Common.{ℕ, ◌-◌, List, get_or, arith}
 use Rattle.std.proofs.lemmas.Int.Digits.{digits_value_more}
 use Rattle.http_front.proofs.PartLemmas.{digit_at, next_fits}
 use Rattle.http_front.proofs.parts.number_of.Goals as goal

@@ -1,4 +1,4 @@
-use Rattle.std.proofs.Common.{◌<◌, ◌++◌, length, List, ℕ, [], subst, sym, arith, rules}
+use Rattle.std.proofs.Common.{◌++◌, List, ℕ, [], subst, sym, arith}
 use Rattle.std.proofs.lemmas.List.{append-nil}
 use Rattle.httparse.specs.Grammar.{ReadsRequest}
 use Rattle.httparse.specs.Spans.{IsRequestOf}

@@ -1,4 +1,4 @@
-use Rattle.std.proofs.Common.{ap, ◌∙◌, rules}
+use Rattle.std.proofs.Common.{ap}
 use Rattle.http1.specs.Fields.{known_fields}
 use Rattle.http1.specs.declared.fields.KnownFields.{KnownFields}
 use Rattle.http_front.proofs.parts.says_close.Goals as goal
