@@ -7,7 +7,9 @@ use Rattle.httparse.specs.Grammar.{print_blank, RequestHead, ReadsRequest}
 use Rattle.httparse.proofs.GrammarLemmas.{request_unique}
 use Rattle.http_front.specs.Heads.{HasNoHead, front_bytes, line_feeds}
 use Rattle.http_front.specs.Said.{verb_of, path_part, query_part, head_length, is_last, says_close, body_size, length_values, is_length_text}
-use Rattle.http_front.specs.Items.{BeginsHead, HasNoEnd, HasManyLines, IsBad, no_end, ends_late, many_lines, other_head, two_lengths, bad_length, BeginsSoundHead, BeginsRequest, Item, taken_request, refused, IsItem, is_final, IsSplit}
+use Rattle.http_front.specs.Items.{BeginsHead, HasNoEnd, HasManyLines, IsBad, no_end, ends_late, many_lines, other_head, two_lengths, bad_length, BeginsSoundHead, BeginsRequest, Item, taken_request, refused, IsItem, is_final, IsSplit, IsTaken}
+use Rattle.http_front.specs.declared.request.Taken.{Taken}
+use Rattle.http_front.specs.declared.request.Taken.TheVariants.{More, Bad, Whole}
 use Rattle.http_front.specs.declared.request.Request.{Request}
 use Rattle.http_front.proofs.FrontLemmas.{fronts, same_length, front_once, front_longer, front_with, front_whole, line_feeds-append}
 
@@ -206,3 +208,19 @@ items_kept stream more (i ∷ a) (j ∷ b) x y h k =
           let later = items_kept h.0 more a b x y (h.3 goes) right in
           (later.0, (λ n. same.0 n ∷ later.1 n))
     ]
+
+-- ---- answers
+
+pub one_answer : (stream : List ℕ) (a b : Taken) → IsTaken stream a → IsTaken stream b → a ≡ b
+one_answer stream More More h k = refl
+one_answer stream More Bad h k = absurd (h.1 refused stream (k, refl))
+one_answer stream More (Whole q n) h k = absurd (h.1 (taken_request q) k.0 k.1)
+one_answer stream Bad More h k = absurd (k.1 refused stream (h, refl))
+one_answer stream Bad Bad h k = refl
+one_answer stream Bad (Whole q n) h k = absurd (not_bad stream k.1.tree (q.body ++ k.0) k.1.head h)
+one_answer stream (Whole p m) More h k = absurd (k.1 (taken_request p) h.0 h.1)
+one_answer stream (Whole p m) Bad h k = absurd (not_bad stream h.1.tree (p.body ++ h.0) h.1.head k)
+one_answer stream (Whole p m) (Whole q n) h k =
+    let same = request_once stream p q h.0 k.0 h.1 k.1 in
+    let used : m ≡ n = omega (arith, h.2, k.2, ap length same.1) in
+    (λ i. Whole (same.0 i) (used i))

@@ -17,7 +17,7 @@ use Rattle.http_front.specs.Items.{BeginsHead, IsBad, no_end, many_lines, other_
 use Rattle.http_front.specs.Told.{HasParts, IsReadAs, number_at, IsTold, HasSaid, IsRequestWith}
 use Rattle.http_front.specs.declared.parts.Said.{Said}
 use Rattle.http_front.specs.declared.request.Request.{Request}
-use Rattle.http_front.specs.declared.request.Taken.TheVariants.{Whole}
+use Rattle.http_front.specs.declared.request.Taken.TheVariants.{More, Whole}
 use Rattle.http_front.proofs.FrontLemmas.{front_longer, front_with, front_whole, line_feeds-append, one_head_from_none, one_head_from_front}
 use Rattle.http_front.proofs.ItemLemmas.{no_item_without_head, no_item_without_body}
 
@@ -214,4 +214,17 @@ whole_taken stream front said request body behind used h e size w n = (
     };
   },
   omega (arith, n, h.within, length-drop (length front) stream, ap length e, length-append body behind),
+)
+
+-- ---- more bytes
+
+pub more_head : (stream near : List ℕ) → near ≡ take 16384 stream → HasNoHead near → length stream < 16384 → line_feeds near ≤ 128 → IsTaken stream More
+more_head stream near e none short few =
+    let same : near ≡ stream = e ∙ take_all 16384 stream (omega (arith, short)) in
+    (inl (subst HasNoHead same none), nothing_yet stream near e none short few)
+
+pub more_body : (stream front : List ℕ) (said : Said) → HasSaid stream front said → length (drop (length front) stream) < body_size said.length → IsTaken stream More
+more_body stream front said h short = (
+  inr (record { tree = h.tree; rest = drop (length front) stream; head = h.head; short = omega (arith, short, ap body_size h.size) }),
+  no_body_yet stream front said h short,
 )

@@ -1,9 +1,9 @@
 -- The items that a stream of bytes splits into: whole requests, and at most one that can't be taken.
-use Rattle.std.specs.Prelude.{◌≡◌, ◌<◌, ◌≤◌, ◌+◌, ℕ, List, [], ◌∷◌, ◌++◌, Bool, true, false, length}
+use Rattle.std.specs.Prelude.{◌≡◌, ◌<◌, ◌≤◌, ◌+◌, ◌⊎◌, ℕ, List, [], ◌∷◌, ◌++◌, Bool, true, false, length}
 use Rattle.std.specs.List.{list_all}
 use Rattle.httparse.specs.Grammar.{LineEnd, RequestHead, ReadsRequest}
 use Rattle.http_front.specs.Heads.{IsFront, HasNoHead, IsOfOneHead, front_bytes, line_feeds}
-use Rattle.http_front.specs.Said.{length_values, is_length_text, IsSaidBy}
+use Rattle.http_front.specs.Said.{head_length, body_size, length_values, is_length_text, IsSaidBy}
 use Rattle.http_front.specs.declared.request.Request.{Request}
 use Rattle.http_front.specs.declared.request.Taken.{Taken}
 use Rattle.http_front.specs.declared.request.Taken.TheVariants.{More, Bad, Whole}
@@ -94,7 +94,7 @@ abbrev pub IsItem : List ℕ → Item → List ℕ → Type 0
 IsItem stream (taken_request taken) behind = BeginsRequest stream taken behind
 IsItem stream refused behind = IsBad stream × (behind ≡ stream)
 
--- no item can be split off: the head or the body isn't complete
+-- no item can be split off
 abbrev pub HasNoItem : List ℕ → Type 0
 HasNoItem stream = (item : Item) (behind : List ℕ) → ¬ (IsItem stream item behind)
 
@@ -111,12 +111,23 @@ IsSplit stream (item ∷ items) rest =
     × (is_final item ≡ true → (items ≡ []) × (rest ≡ behind))
     × (is_final item ≡ false → IsSplit behind items rest)
 
--- what was taken is the front of the stream
+-- a head has ended, but its body isn't all there
+pub record LacksBody (stream : List ℕ) : Type 0 where
+  pub tree : RequestHead
+  pub rest : List ℕ
+  pub head : BeginsSoundHead stream tree rest
+  pub short : length rest < body_size (head_length tree)
+
+-- what was taken is the front of the stream; more bytes are needed where the head or the body isn't complete
 abbrev pub IsTaken : List ℕ → Taken → Type 0
-IsTaken stream More = HasNoItem stream
+IsTaken stream More = (HasNoHead stream ⊎ LacksBody stream) × HasNoItem stream
 IsTaken stream Bad = IsBad stream
 IsTaken stream (Whole taken used) =
     (behind : List ℕ) × BeginsRequest stream taken behind × (used + length behind ≡ length stream)
+
+-- one answer is right
+abbrev pub HasOneAnswer : List ℕ → Type 0
+HasOneAnswer stream = (a b : Taken) → IsTaken stream a → IsTaken stream b → a ≡ b
 
 -- a stream splits in at most one way
 abbrev pub SplitsOnce : List ℕ → Type 0

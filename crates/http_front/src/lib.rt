@@ -14,4 +14,7 @@ pub use refusal::refusal_body;
 pub use reply::{Page, Reply, bad_reply, reply_bytes, reply_reads_back};
 pub use request::{Length, Request, Taken, Verb};
 pub use route::{Route, path_has_one_route, route_of};
-pub use take::{request_needs_no_more, stream_keeps_items, stream_splits_once, take_request};
+pub use take::{
+    request_needs_no_more, stream_has_one_answer, stream_keeps_items, stream_splits_once,
+    take_request,
+};

@@ -21,6 +21,9 @@ use std::alloc::Global;
 /// The longest body that is read.
 const LONGEST_BODY: u64 = 65_536;
 
+/// The most `Content-Length` lines that a head has.
+const MOST_LENGTHS: usize = 1;
+
 /// The most digits that a length has.
 const MOST_DIGITS: usize = 19;
 
@@ -133,7 +136,7 @@ fn lawful_length(values: &[&[u8]]) -> Option<u64>
     if values.is_empty() {
         return Some(0);
     }
-    if values.len() > 1 {
+    if values.len() > MOST_LENGTHS {
         return None;
     }
     let value = values[0];

@@ -1,7 +1,7 @@
 //! The next request of a stream of bytes.
 ghost use Rattle.std.specs.Prelude.{◌≡◌, ◌≤◌, IfOk, length, take};
 ghost use Rattle.http_front.specs.Heads.{HasNoHead, IsFrontOf, line_feeds};
-ghost use Rattle.http_front.specs.Items.{IsTaken, SplitsOnce, KeepsItems, KeepsItem, NeedsNoMore};
+ghost use Rattle.http_front.specs.Items.{IsTaken, HasOneAnswer, SplitsOnce, KeepsItems, KeepsItem, NeedsNoMore};
 ghost use Rattle.http_front.specs.Told.{HasParts, HasSaid, IsReadAs, IsRequestWith};
 
 use crate::head::{front_of, line_feeds};
@@ -124,6 +124,13 @@ fn request_with(alloc: Global, said: &Said<'_>, body: &[u8]) -> Result<Request, 
         body,
         last: said.last,
     })
+}
+
+/// One answer to what can be taken is right.
+pub fn stream_has_one_answer(stream: &[u8])
+    ensures { HasOneAnswer stream.now }
+{
+    let _stream = stream;
 }
 
 /// A stream splits into items in at most one way.

@@ -7,8 +7,8 @@ returns-then-is_empty c =
     let none : length c.args.values.now ≡ 0 = search (rules, tests) in
     lawful_empty c.args.values.now none
 
-pub returns-then-values-gt1 : goal.returns-then-values-gt1
-returns-then-values-gt1 c = lawful_many c.args.values.now (omega arith)
+pub returns-then-values-gt-MOST_LENGTHS : goal.returns-then-values-gt-MOST_LENGTHS
+returns-then-values-gt-MOST_LENGTHS c = lawful_many c.args.values.now (omega arith)
 
 pub returns-then-is_length_text : goal.returns-then-is_length_text
 returns-then-is_length_text c =

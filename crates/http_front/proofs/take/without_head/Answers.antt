@@ -1,5 +1,5 @@
 use Rattle.std.proofs.Common.{arith}
-use Rattle.http_front.proofs.TakeLemmas.{full_bad, lines_bad, nothing_yet}
+use Rattle.http_front.proofs.TakeLemmas.{full_bad, lines_bad, more_head}
 use Rattle.http_front.proofs.take.without_head.Goals as goal
 
 pub returns-then-buf-ge-LONGEST_HEAD : goal.returns-then-buf-ge-LONGEST_HEAD
@@ -9,4 +9,4 @@ pub returns-then-line_feeds-gt-MOST_LINES : goal.returns-then-line_feeds-gt-MOST
 returns-then-line_feeds-gt-MOST_LINES c = lines_bad c.args.buf.now c.args.near.now c.requires.near c.requires.none (omega (arith, c.line_feeds.ensures))
 
 pub returns : goal.returns
-returns c = nothing_yet c.args.buf.now c.args.near.now c.requires.near c.requires.none (omega arith) (omega (arith, c.line_feeds.ensures))
+returns c = more_head c.args.buf.now c.args.near.now c.requires.near c.requires.none (omega arith) (omega (arith, c.line_feeds.ensures))
