@@ -5,7 +5,8 @@ ghost use Rattle.http_front.specs.Heads.{BeginsEmptyLine, EndsHead, HasNoHead, I
 
 // The length of the empty line that the bytes begin with.
 fn empty_line(bytes: &[u8]) -> Option<usize>
-    ensures some { IfSome result (λ n. (end : LineEnd) × (bytes.now ≡ print_end end ++ drop n bytes.now)) }
+    ensures some { IfSome result
+        (λ n. (end : LineEnd) × (bytes.now ≡ print_end end ++ drop n bytes.now)) }
     ensures bound { IfSome result (λ n. (0 < n) × (n ≤ length bytes.now)) }
     ensures none { IfNone result (¬ (BeginsEmptyLine bytes.now)) }
 {

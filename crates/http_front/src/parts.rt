@@ -83,7 +83,8 @@ fn values_named<'a>(
     name: &[u8],
 ) -> Result<Vec<&'a [u8]>, Memory>
     requires { All (IsHeaderWithin (length head.now)) lines.now }
-    ensures { IfOk result (λ v. map (λ r. r.now) v.items ≡ values_named name.now (map (header_bytes head.now) lines.now)) }
+    ensures { IfOk result (λ v. map (λ r. r.now) v.items
+        ≡ values_named name.now (map (header_bytes head.now) lines.now)) }
 {
     let mut values = Vec::new(alloc);
     for line in lines {
@@ -100,7 +101,8 @@ fn values_named<'a>(
 // Whether `close` is a word of a `Connection` line.
 fn says_close(head: &[u8], lines: &[HeaderSpan]) -> bool
     requires { All (IsHeaderWithin (length head.now)) lines.now }
-    ensures { result ≡ has_option (codes "close") (elements_named (codes "connection") (map (header_bytes head.now) lines.now)) }
+    ensures { result ≡ has_option (codes "close")
+        (elements_named (codes "connection") (map (header_bytes head.now) lines.now)) }
 {
     KnownFields::from_spans(head, lines).close
 }
@@ -218,7 +220,8 @@ pub fn number_said(alloc: Global, head: &[u8], lines: &[HeaderSpan]) -> Result<O
 
 fn is_chunked(alloc: Global, head: &[u8], lines: &[HeaderSpan]) -> Result<bool, Memory>
     requires { All (IsHeaderWithin (length head.now)) lines.now }
-    ensures { IfOk result (λ b. b ≡ not (length (values_at head.now lines.now (codes "transfer-encoding")) == 0)) }
+    ensures { IfOk result (λ b. b
+        ≡ not (length (values_at head.now lines.now (codes "transfer-encoding")) == 0)) }
 {
     let values = values_named(alloc, head, lines, b"transfer-encoding")?;
     Ok(!values.as_slice().is_empty())
