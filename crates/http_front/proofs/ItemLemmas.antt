@@ -27,7 +27,7 @@ head_longer stream more t r x = record {
   reads = x.reads;
 }
 
-sound_longer : (stream more : List ℕ) (t : RequestHead) (r : List ℕ) → BeginsSoundHead stream t r → BeginsSoundHead (stream ++ more) t (r ++ more)
+pub sound_longer : (stream more : List ℕ) (t : RequestHead) (r : List ℕ) → BeginsSoundHead stream t r → BeginsSoundHead (stream ++ more) t (r ++ more)
 unfolding head_longer
 sound_longer stream more t r x = record {
   head = head_longer stream more t r x.head;

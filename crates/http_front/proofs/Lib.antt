@@ -5,3 +5,4 @@ pub mod PathLemmas
 pub mod ReplyLemmas
 pub mod RouteLemmas
 pub mod TakeLemmas
+pub mod WaitLemmas

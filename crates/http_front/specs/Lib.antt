@@ -7,3 +7,4 @@ pub mod Refusals
 pub mod Routes
 pub mod Said
 pub mod Told
+pub mod Waits

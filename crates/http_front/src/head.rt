@@ -32,8 +32,8 @@ fn skipped_len(bytes: &[u8]) -> usize
     at
 }
 
-// Whether a line feed with an empty line behind it stands last.
-fn ends_head(bytes: &[u8]) -> bool
+/// Whether a line feed with an empty line behind it stands last.
+pub fn ends_head(bytes: &[u8]) -> bool
     ensures { IsTrue result ↔ EndsHead bytes.now }
 {
     if bytes.ends_with(b"\n\n") {

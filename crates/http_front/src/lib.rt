@@ -2,6 +2,7 @@
 #![tactic(auto)]
 
 mod head;
+mod next;
 mod parts;
 mod path;
 mod refusal;
@@ -10,9 +11,10 @@ mod request;
 mod route;
 mod take;
 
+pub use next::{next_item, nothing_known, stream_stays_known};
 pub use refusal::refusal_body;
 pub use reply::{Page, Reply, bad_reply, reply_bytes, reply_reads_back};
-pub use request::{Length, Request, Taken, Verb};
+pub use request::{Known, Length, Next, Request, Taken, Verb};
 pub use route::{Route, path_has_one_route, route_of};
 pub use take::{
     request_needs_no_more, stream_has_one_answer, stream_keeps_items, stream_splits_once,

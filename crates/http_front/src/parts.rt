@@ -170,7 +170,8 @@ fn is_unread(length: Length) -> bool
 
 /// How many bytes behind the head are the body.
 pub fn body_size(length: Length) -> usize
-    ensures { result ≡ body_size length }
+    ensures value { result ≡ body_size length }
+    ensures small { result ≤ 65536 }
 {
     match length {
         Length::Chunked => 0,

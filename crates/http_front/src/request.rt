@@ -47,3 +47,27 @@ pub enum Taken {
     /// A request, and the number of bytes that it takes.
     Whole(Request, usize),
 }
+
+/// What is known of a stream that has no item yet, so that it needn't be looked at again.
+#[derive(Clone, Copy, Debug, PartialEq, Eq)]
+pub enum Known {
+    /// No head ends in so many first bytes.
+    NoHead {
+        looked: usize,
+        /// How many line feeds they have.
+        lines: usize,
+    },
+    /// The bytes up to the end of the first head, and those of its body, are so many.
+    Size(usize),
+}
+
+/// What the front of a stream is, with what is known of it while more bytes are needed.
+#[derive(Debug, Drop)]
+pub enum Next {
+    /// The head or the body isn't complete.
+    Waits(Known),
+    /// No request can be taken.
+    Bad,
+    /// A request, and the number of bytes that it takes.
+    Whole(Request, usize),
+}

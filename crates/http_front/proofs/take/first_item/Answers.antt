@@ -1,7 +1,7 @@
 use Rattle.std.proofs.Common.{◌≡◌, ◌++◌, List, ℕ, ap, sym, ◌∙◌, arith, length, drop}
 use Rattle.std.proofs.lemmas.List.{take-append-drop, length-take}
 use Rattle.http_front.proofs.TakeLemmas.{front_in_all, front_short}
-use Rattle.http_front.proofs.take.take_request.Goals as goal
+use Rattle.http_front.proofs.take.first_item.Goals as goal
 
 pub take_with_head-requires-clause-front : goal.take_with_head-requires-clause-front
 take_with_head-requires-clause-front c =
