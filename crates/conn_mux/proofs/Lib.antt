@@ -1,0 +1,4 @@
+pub mod BufferLemmas
+pub mod FollowLemmas
+pub mod OrderLemmas
+pub mod StreamLemmas
