@@ -1,3 +1,4 @@
 pub mod OrderLemmas
 pub mod ChangeLemmas
+pub mod OutcomeLemmas
 pub mod StretchLemmas
