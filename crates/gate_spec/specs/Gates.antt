@@ -51,10 +51,11 @@ abbrev pub IsRemovedIn : List GateEntry → List ℕ → Bool → Type 0
 IsRemovedIn entries name value =
     (x : GateEntry) × IsNewest entries name x × (x.change ≡ Gone) × IsLastDefault entries name value
 
--- what a release knows of the gate: what the newest entry of its tables says; where they have none, the whole history
--- tells a gate that comes later from one that never comes
+-- what a release knows of the gate: what the newest entry of its tables says; where they have none,
+-- the whole history tells a gate that comes later from one that never comes
 abbrev pub IsSpecAt : List GateEntry → List ℕ → ℕ → SpecAt → Type 0
-IsSpecAt entries name e (Found stage default locked) = IsFoundIn (cutoff entries e) name stage default locked
+IsSpecAt entries name e (Found stage default locked) =
+    IsFoundIn (cutoff entries e) name stage default locked
 IsSpecAt entries name e (Removed value) = IsRemovedIn (cutoff entries e) name value
 IsSpecAt entries name e PreAlpha = ¬ HasGate (cutoff entries e) name × HasGate entries name
 IsSpecAt entries name e Never = ¬ HasGate entries name

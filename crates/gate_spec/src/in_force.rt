@@ -9,8 +9,10 @@ impl SpecAt {
     /// What the release knows of a gate after one more entry of it, which is dated after the earlier ones.
     pub fn after(self, entry: &GateEntry, e: Minor) -> SpecAt
         ensures same { result ≡ spec_after self entry.now e }
-        ensures known { (earlier : List TheEntry) → All (λ x. x.name ≡ entry.now.name → x.since < entry.now.since) earlier →
-            IsSpecAt earlier entry.now.name e self → IsSpecAt (earlier ++ entry.now ∷ []) entry.now.name e result }
+        ensures known { (earlier : List TheEntry)
+            → All (λ x. x.name ≡ entry.now.name → x.since < entry.now.since) earlier
+            → IsSpecAt earlier entry.now.name e self
+            → IsSpecAt (earlier ++ entry.now ∷ []) entry.now.name e result }
     {
         if e < entry.since {
             return match self {
@@ -35,8 +37,8 @@ impl SpecAt {
     // The default of the newest spec so far.
     fn last_default(self) -> bool
         ensures same { result ≡ last_default self }
-        ensures newest { (earlier : List TheEntry) (name : List ℕ) (e : ℕ) → IsSpecAt earlier name e self →
-            IsLastDefault (cutoff earlier e) name result }
+        ensures newest { (earlier : List TheEntry) (name : List ℕ) (e : ℕ)
+            → IsSpecAt earlier name e self → IsLastDefault (cutoff earlier e) name result }
     {
         match self {
             SpecAt::Found { default, .. } => default,
@@ -63,7 +65,8 @@ pub fn spec_at(entries: &[GateEntry], name: &[u8], e: Minor) -> SpecAt
 
 // Whether the entry is dated after each of the earlier entries of its gate.
 fn is_later(earlier: &[GateEntry], entry: &GateEntry) -> bool
-    ensures { IsTrue result ↔ All (λ x. x.name ≡ entry.now.name → x.since < entry.now.since) earlier.now }
+    ensures { IsTrue result
+        ↔ All (λ x. x.name ≡ entry.now.name → x.since < entry.now.since) earlier.now }
 {
     earlier.iter().all(|x| x.name.bytes() != entry.name.bytes() || x.since < entry.since)
 }

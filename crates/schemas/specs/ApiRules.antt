@@ -1,4 +1,5 @@
--- The rules on versions of resources, one entry at a time (after the Kubernetes deprecation policy).
+-- The rules on versions of resources, one entry at a time (after the Kubernetes deprecation
+-- policy).
 use Rattle.std.specs.Prelude.{ℕ, ◌≡◌, ◌≢◌, ◌+◌, ◌<◌, ◌≤◌, ◌&&◌, List, [], Bool, Option, IsNone, IsSomeAnd, All, Any, codes}
 use Rattle.std.specs.Str.{bytes_eq}
 use Rattle.lifecycle.specs.Entry.{GroupVersionResource, IsIntroduction, IsRemoval, IsKnownOf, IsIntroduced, IsRemoved, IsLive}
@@ -52,13 +53,15 @@ StandsInOrder earlier x = IsNext (previous_of_version earlier x) x.since x.chang
 
 -- two introductions agree in kind, singular and scope
 abbrev pub AgreeInKind : ApiChange → ApiChange → Type 0
-AgreeInKind (Introduced kind singular namespaced enabled) (Introduced kind' singular' namespaced' enabled') =
+AgreeInKind (Introduced kind singular namespaced enabled)
+    (Introduced kind' singular' namespaced' enabled') =
     (kind ≡ kind') × (singular ≡ singular') × (namespaced ≡ namespaced')
 AgreeInKind _ _ = Unit {0}
 
 -- two introductions differ in kind
 abbrev pub DifferInKind : ApiChange → ApiChange → Type 0
-DifferInKind (Introduced kind singular namespaced enabled) (Introduced kind' singular' namespaced' enabled') =
+DifferInKind (Introduced kind singular namespaced enabled)
+    (Introduced kind' singular' namespaced' enabled') =
     kind ≢ kind'
 DifferInKind _ _ = Unit {0}
 
@@ -130,7 +133,8 @@ IsInFavourOf x y (Deprecated removal replacement) =
     (x.group ≡ y.group) × (x.version ≡ replacement) × (x.resource ≡ y.resource)
 IsInFavourOf x y _ = ⊥
 
--- a forgetting comes at least three releases after the removal, which is the version's previous entry
+-- a forgetting comes at least three releases after the removal, which is the version's previous
+-- entry
 abbrev pub IsLateAfter : Option ApiEntry → ℕ → Type 0
 IsLateAfter previous since = IsSomeAnd previous (λ y. IsRemoval y.change × (y.since + 3 ≤ since))
 

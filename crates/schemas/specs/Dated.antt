@@ -8,7 +8,8 @@ use Rattle.gate_spec.specs.declared.entry.GateEntry.{GateEntry}
 use Rattle.lifecycle.specs.declared.entry.ApiEntry.{ApiEntry}
 use Rattle.schemas.specs.Shapes.{IsMinor, IsShapedGate, IsShapedApi, IsShapedField, IsShapedSpell}
 
--- dated entries, each list in document order, and the first and the last release of which they speak
+-- dated entries, each list in document order, and the first and the last release of which they
+-- speak
 pub record Dated : Type 0 where
   pub first : Option ℕ
   pub last : Option ℕ

@@ -29,7 +29,8 @@ pub record BelongsToResource (first : ℕ) (apis : List ApiEntry) (earlier : Lis
     (x : Field) : Type 0 where
   pub once : All (λ y. ¬ AreOneField x y) earlier
   pub few : length (filter (is_of_resource x) earlier) < 64
-  pub versioned : Any (λ a. IntroducesVersionOf x.group x.resource a × (a.since ≤ begins_at first x)) apis
+  pub versioned :
+      Any (λ a. IntroducesVersionOf x.group x.resource a × (a.since ≤ begins_at first x)) apis
 
 -- a field that isn't guarded and is there in each version of its resource from the version's
 -- introduction on

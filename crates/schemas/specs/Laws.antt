@@ -37,7 +37,8 @@ IsIntroducedOnce h =
 
 -- some version of the resource is live at the release
 abbrev pub IsKindLive : Dated → List ℕ → List ℕ → ℕ → Type 0
-IsKindLive h group resource e = (version : List ℕ) × IsLive h.apis (name_of group version resource) e
+IsKindLive h group resource e =
+    (version : List ℕ) × IsLive h.apis (name_of group version resource) e
 
 -- a kind that is live at a release is live at every later one
 abbrev pub KindsStayLive : Dated → Type 0
@@ -99,7 +100,8 @@ PathsAreApart spells =
 
 -- the rows of a version at a release are lawful
 abbrev pub RowsAreLawful : Dated → Type 0
-RowsAreLawful h = (is_on : List ℕ → Bool) (name : GroupVersionResource) (e : ℕ) (rows : List FieldRow)
+RowsAreLawful h =
+    (is_on : List ℕ → Bool) (name : GroupVersionResource) (e : ℕ) (rows : List FieldRow)
     → AreRowsAt h is_on name e rows → AreLawful rows
 
 -- the field is one of the version's resource, and there at the release
@@ -119,12 +121,15 @@ EachFieldHasRow h =
 -- two versions of a resource that are decodable at a release have rows of the same fields
 abbrev pub RowsAreAlike : Dated → Type 0
 RowsAreAlike h =
-    (is_on also_on : List ℕ → Bool) (name other : GroupVersionResource) (e : ℕ) (rows others : List FieldRow)
+    (is_on also_on : List ℕ → Bool) (name other : GroupVersionResource) (e : ℕ)
+    (rows others : List FieldRow)
     → name.group ≡ other.group → name.resource ≡ other.resource
     → IsDecodable h.apis name e → IsDecodable h.apis other e
-    → AreRowsAt h is_on name e rows → AreRowsAt h also_on other e others → AreOfSameFields rows others
+    → AreRowsAt h is_on name e rows → AreRowsAt h also_on other e others
+    → AreOfSameFields rows others
 
--- the rows are those of the others whose fields are there at the release, but for which of them are on
+-- the rows are those of the others whose fields are there at the release, but for which of them are
+-- on
 pub record AreThoseThere (fields : List Field) (name : GroupVersionResource) (m : ℕ)
     (rows others : List FieldRow) : Type 0 where
   pub less : KnowsLess rows others
@@ -135,6 +140,8 @@ pub record AreThoseThere (fields : List Field) (name : GroupVersionResource) (m 
 -- for which of them are on, and beside them those of fields that come later
 abbrev pub RowsAreKept : Dated → Type 0
 RowsAreKept h =
-    (is_on also_on : List ℕ → Bool) (name : GroupVersionResource) (m e : ℕ) (rows others : List FieldRow)
-    → m ≤ e → IsDecodable h.apis name m → AreRowsAt h is_on name m rows → AreRowsAt h also_on name e others
+    (is_on also_on : List ℕ → Bool) (name : GroupVersionResource) (m e : ℕ)
+    (rows others : List FieldRow)
+    → m ≤ e → IsDecodable h.apis name m → AreRowsAt h is_on name m rows
+    → AreRowsAt h also_on name e others
     → AreThoseThere h.fields name m rows others

@@ -45,7 +45,8 @@ abbrev pub AreOfOnePair : Spell → Spell → Type 0
 AreOfOnePair s t = AreForOneVersion s t × (s.field ≡ t.field)
 
 -- the field has exactly one spelling in the version
-pub record HasOneSpelling (spells : List Spell) (f : Field) (name : GroupVersionResource) : Type 0 where
+pub record HasOneSpelling (spells : List Spell) (f : Field)
+    (name : GroupVersionResource) : Type 0 where
   pub some : Any (IsSpelling f name) spells
   pub one : (i j : ℕ) (s t : Spell) → slice_get spells i ≡ Some s → slice_get spells j ≡ Some t
       → IsSpelling f name s → IsSpelling f name t → i ≡ j
@@ -56,7 +57,8 @@ EachPairHasOneSpelling apis fields spells =
     (i j : ℕ) (f : Field) (x : ApiEntry) → slice_get fields i ≡ Some f → slice_get apis j ≡ Some x
     → IsPair apis f x → HasOneSpelling spells f (subject x)
 
--- s is the spelling of the field's pair with the version that x introduces, dated when both are there
+-- s is the spelling of the field's pair with the version that x introduces, dated when both are
+-- there
 pub record SpellsPair (apis : List ApiEntry) (f : Field) (s : Spell) (x : ApiEntry) : Type 0 where
   pub pair : IsPair apis f x
   pub spelling : IsOfVersion (subject x) s
@@ -67,6 +69,7 @@ abbrev pub IsPaired : List ApiEntry → List Field → Spell → Type 0
 IsPaired apis fields s = Any (λ f. IsOfField f s × Any (SpellsPair apis f s) apis) fields
 
 -- each pair has exactly one spelling, and each spelling is that of a pair
-pub record AreSpelledOnce (apis : List ApiEntry) (fields : List Field) (spells : List Spell) : Type 0 where
+pub record AreSpelledOnce (apis : List ApiEntry) (fields : List Field)
+    (spells : List Spell) : Type 0 where
   pub pairs : EachPairHasOneSpelling apis fields spells
   pub spellings : (i : ℕ) (s : Spell) → slice_get spells i ≡ Some s → IsPaired apis fields s

@@ -10,7 +10,8 @@ abbrev pub Each : {E : Type 0} → (List E → E → Type 0) → List E → Type
 Each {E} Keeps xs = (i : ℕ) (x : E) → slice_get xs i ≡ Some x → Keeps (take i xs) x
 
 -- the entry with this number, counted from 1, breaks the rule
-pub record Breaks {E : Type 0} (Keeps : List E → E → Type 0) (xs : List E) (number : ℕ) : Type 0 where
+pub record Breaks {E : Type 0} (Keeps : List E → E → Type 0) (xs : List E)
+    (number : ℕ) : Type 0 where
   pub place : ℕ
   pub entry : E
   pub counted : number ≡ place + 1

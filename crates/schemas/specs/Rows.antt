@@ -20,7 +20,8 @@ pub record IsSpelledAs (f : Field) (s : Spell) (row : FieldRow) : Type 0 where
 
 -- the row gives one of the fields as it is spelled in the version, and is on if no gate guards the
 -- field or the gate is on
-abbrev pub IsRow : (List ℕ → Type 0) → List Field → List Spell → GroupVersionResource → FieldRow → Type 0
+abbrev pub IsRow : (List ℕ → Type 0) → List Field → List Spell → GroupVersionResource → FieldRow
+    → Type 0
 IsRow IsOn fields spells name row =
     Any (λ f. Any (λ s.
     IsSpelling f name s × IsSpelledAs f s row × (IsTrue row.on ↔ IfSome f.gate IsOn)) spells) fields

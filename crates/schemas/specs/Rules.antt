@@ -142,7 +142,8 @@ abbrev pub IsUnbroken : Dated → List Check → Type 0
 IsUnbroken h [] = Unit {0}
 IsUnbroken h (check ∷ more) = ((number : ℕ) → ¬ check.IsBrokenAt h number) × IsUnbroken h more
 
--- of the tests, the first that finds a fault finds it in this rule, first at the entry with this number
+-- of the tests, the first that finds a fault finds it in this rule, first at the entry with this
+-- number
 abbrev pub IsFirstFault : Dated → List Check → ℕ → Array → ℕ → Type 0
 IsFirstFault h [] rule array number = ⊥
 IsFirstFault h (check ∷ more) rule array number =
