@@ -18,7 +18,8 @@ IdsRise rows = Rises (map (λ r. r.id) rows)
 
 -- ---- paths
 
--- one to eight names of members, each a lower-case letter and then letters and digits, of at most 32 bytes
+-- one to eight names of members, each a lower-case letter and then letters and digits, of at most
+-- 32 bytes
 pub record IsPath (path : List (List ℕ)) : Type 0 where
   pub some : 0 < length path
   pub few : length path ≤ 8

@@ -22,11 +22,21 @@ fn is_free(name: &Text) -> bool
     name != "apiVersion" && name != "kind" && name != "metadata"
 }
 
+/// Whether the path doesn't begin at a member that each object has.
+pub fn begins_free(path: &[Text]) -> bool
+    ensures { IsTrue result ↔ IfSome (slice_get path.now 0) IsFree }
+{
+    match path.first() {
+        Some(name) => is_free(name),
+        None => true,
+    }
+}
+
 /// Whether a field may have the path: one to eight names of members, of which the first is none that each object has.
 pub fn is_field_path(path: &[Text]) -> bool
     ensures { IsTrue result ↔ IsFieldPath path.now }
 {
-    is_path(path) && is_free(&path[0])
+    is_path(path) && begins_free(path)
 }
 
 fn leads_through(path: &[Text], front: &[Text]) -> bool

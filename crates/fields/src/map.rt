@@ -56,7 +56,8 @@ fn insert_at(pairs: &mut Vec<FieldPair>, i: usize, pair: FieldPair) -> Result<()
     requires map { IsMap pairs.old.items }
     requires place { IsBefore pairs.old.items pair.id i }
     ensures map { IsMap pairs.new.items }
-    ensures ok { OnOk result (IsChangedAt pair.id (Some pair.value) pairs.old.items pairs.new.items) }
+    ensures ok { OnOk result
+        (IsChangedAt pair.id (Some pair.value) pairs.old.items pairs.new.items) }
     ensures err { OnErr result (pairs.new.items ≡ pairs.old.items) }
 {
     pairs.insert(i, pair)?;

@@ -55,7 +55,8 @@ impl FieldRows {
 
     /// Whether a row of the id may be appended: the id is above the last row's.
     pub fn can_push(&self, id: &[u8]) -> bool
-        ensures { IsTrue result ↔ ForSome (slice_get self.now (length self.now - 1)) (λ last. IsBelow last.id id.now) }
+        ensures { IsTrue result
+            ↔ ForSome (slice_get self.now (length self.now - 1)) (λ last. IsBelow last.id id.now) }
     {
         let Some(last) = self.items().last() else {
             return true;
@@ -65,7 +66,8 @@ impl FieldRows {
 
     /// Appends a row, whose id is above the last one's. Where memory runs out, the row is dropped and the list stays.
     pub fn push(&mut self, alloc: Global, row: FieldRow) -> Result<(), Memory>
-        requires { ForSome (slice_get self.old (length self.old - 1)) (λ last. IsBelow last.id row.id) }
+        requires { ForSome (slice_get self.old (length self.old - 1))
+            (λ last. IsBelow last.id row.id) }
         ensures ok { OnOk result (self.new ≡ self.old ++ row ∷ []) }
         ensures err { OnErr result (self.new ≡ self.old) }
     {

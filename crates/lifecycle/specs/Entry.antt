@@ -12,7 +12,11 @@ pub record GroupVersionResource : Type 0 where
   pub resource : List ℕ
 
 abbrev pub named : ApiName → GroupVersionResource
-named name = record { group = name.group.now; version = name.version.now; resource = name.resource.now }
+named name = record {
+  group = name.group.now;
+  version = name.version.now;
+  resource = name.resource.now;
+}
 
 -- the version of which the entry speaks
 abbrev pub subject : ApiEntry → GroupVersionResource

@@ -1,5 +1,6 @@
 -- Digits: texts that begin with digits.
--- Version: the words of API versions, as `v1`, `v2beta1` and `v1alpha3` (Kubernetes API versioning).
+-- Version: the words of API versions, as `v1`, `v2beta1` and `v1alpha3` (Kubernetes API
+-- versioning).
 -- Stability: the order of versions, the most stable first (Kubernetes version priority).
 -- Entry: what a list of dated changes says of a version of a resource at a release.
 -- Tables: what the tables of a release say of a version of a resource.

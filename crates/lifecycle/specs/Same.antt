@@ -20,10 +20,11 @@ introduction_of _ = None
 
 -- what the first introduction of the version in the tables says of it
 abbrev pub introduced_as : List ApiEntry → GroupVersionResource → Option Introduction
-introduced_as tables name = option_and_then (λ x. introduction_of x.change) (first_change is_introduction tables name)
+introduced_as tables name =
+    option_and_then (λ x. introduction_of x.change) (first_change is_introduction tables name)
 
--- each version is live in both tables or in neither, and decodable in both or in neither, with the same warning, and where
--- it is either of these introduced in the same way
+-- each version is live in both tables or in neither, and decodable in both or in neither, with the
+-- same warning, and where it is either of these introduced in the same way
 pub record AreSameVersions (xs ys : List ApiEntry) : Type 0 where
   pub live_as : (name : GroupVersionResource) → live xs name ≡ true →
       introduced_as xs name ≡ introduced_as ys name

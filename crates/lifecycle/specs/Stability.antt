@@ -17,9 +17,10 @@ number_of Ga = 0
 number_of (Beta n) = n
 number_of (Alpha n) = n
 
--- general availability before beta before alpha; then the greater major number first; then the greater number of the
--- level first
+-- general availability before beta before alpha; then the greater major number first; then the
+-- greater number of the level first
 abbrev pub by_stability : VersionWord → VersionWord → Ordering
 by_stability =
     then_cmp (on (λ w. rank_of w.level) nat_cmp)
-    (then_cmp (flip_args (on (λ w. w.major) nat_cmp)) (flip_args (on (λ w. number_of w.level) nat_cmp)))
+    (then_cmp (flip_args (on (λ w. w.major) nat_cmp))
+    (flip_args (on (λ w. number_of w.level) nat_cmp)))

@@ -1,5 +1,5 @@
--- What the tables of a release say of a version of a resource. The tables are the dated changes up to the release: no
--- later change and no emulated release occurs in them.
+-- What the tables of a release say of a version of a resource. The tables are the dated changes up
+-- to the release: no later change and no emulated release occurs in them.
 use Rattle.std.specs.Prelude.{◌&&◌, not, ℕ, nat_le, Bool, true, false, List, filter, find, Option, Some, None, is_some, option_and_then, cond}
 use Rattle.std.specs.Str.{bytes_eq}
 use Rattle.lifecycle.specs.Entry.{GroupVersionResource}
@@ -37,10 +37,17 @@ is_forgetting Forgotten = true
 
 -- the entry speaks of this version
 abbrev pub is_of : GroupVersionResource → ApiEntry → Bool
-is_of name x = bytes_eq x.group name.group && bytes_eq x.version name.version && bytes_eq x.resource name.resource
+is_of name x =
+    bytes_eq x.group name.group && bytes_eq x.version name.version
+    && bytes_eq x.resource name.resource
+
+-- the entry is such a change of the version, dated at or before the release
+abbrev pub is_change_by : (ApiChange → Bool) → GroupVersionResource → ℕ → ApiEntry → Bool
+is_change_by test name e x = nat_le x.since e && (is_of name x && test x.change)
 
 -- the first of the version's changes in the tables that passes the test
-abbrev pub first_change : (ApiChange → Bool) → List ApiEntry → GroupVersionResource → Option ApiEntry
+abbrev pub first_change : (ApiChange → Bool) → List ApiEntry → GroupVersionResource
+    → Option ApiEntry
 first_change test tables name = find (λ x. is_of name x && test x.change) tables
 
 -- the version has such a change in the tables
@@ -49,11 +56,13 @@ has_change test tables name = is_some (first_change test tables name)
 
 -- the version is there: introduced and not removed
 abbrev pub live : List ApiEntry → GroupVersionResource → Bool
-live tables name = has_change is_introduction tables name && not (has_change is_removal tables name)
+live tables name =
+    has_change is_introduction tables name && not (has_change is_removal tables name)
 
 -- stored objects in the version are read: introduced and not forgotten
 abbrev pub decodable : List ApiEntry → GroupVersionResource → Bool
-decodable tables name = has_change is_introduction tables name && not (has_change is_forgetting tables name)
+decodable tables name =
+    has_change is_introduction tables name && not (has_change is_forgetting tables name)
 
 -- what a warning tells of a deprecation: its release, the planned removal and the version to use
 pub record Deprecation : Type 0 where
@@ -70,4 +79,5 @@ deprecation_of since _ = None
 abbrev pub warning : List ApiEntry → GroupVersionResource → Option Deprecation
 warning tables name =
     cond (live tables name)
-    (option_and_then (λ x. deprecation_of x.since x.change) (first_change is_deprecation tables name)) None
+    (option_and_then (λ x. deprecation_of x.since x.change)
+    (first_change is_deprecation tables name)) None

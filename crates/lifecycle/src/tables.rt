@@ -2,7 +2,7 @@
 ghost use Rattle.std.specs.Prelude.{◌≡◌, ◌↔◌, ◌&&◌, IsTrue, IfSome, IsUtf8, nat_le, find, option_copied, option_map};
 ghost use Rattle.std.specs.List.{list_any};
 ghost use Rattle.lifecycle.specs.Entry.{named, IsLive};
-ghost use Rattle.lifecycle.specs.Tables.{cutoff, is_of, is_introduction, is_deprecation, is_removal, is_forgetting, has_change, first_change, live, decodable, deprecation_of, warning};
+ghost use Rattle.lifecycle.specs.Tables.{cutoff, is_of, is_change_by, is_introduction, is_deprecation, is_removal, is_forgetting, has_change, first_change, live, decodable, deprecation_of, warning};
 ghost use Rattle.lifecycle.specs.Warnings.{told};
 
 use crate::entry::{ApiChange, ApiEntry, ApiName};
@@ -81,25 +81,26 @@ fn is_of(entry: &ApiEntry, name: ApiName<'_>) -> bool
 }
 
 fn is_introduced(entries: &[ApiEntry], name: ApiName<'_>, e: Minor) -> bool
-    ensures { result ≡ list_any (λ x. nat_le x.since e && (is_of (named name.entry) x && is_introduction x.change)) entries.now }
+    ensures { result ≡ list_any (is_change_by is_introduction (named name.entry) e) entries.now }
 {
     entries.iter().any(|x| x.since <= e && (is_of(x, name) && x.change.is_introduction()))
 }
 
 fn is_removed(entries: &[ApiEntry], name: ApiName<'_>, e: Minor) -> bool
-    ensures { result ≡ list_any (λ x. nat_le x.since e && (is_of (named name.entry) x && is_removal x.change)) entries.now }
+    ensures { result ≡ list_any (is_change_by is_removal (named name.entry) e) entries.now }
 {
     entries.iter().any(|x| x.since <= e && (is_of(x, name) && x.change.is_removal()))
 }
 
 fn is_forgotten(entries: &[ApiEntry], name: ApiName<'_>, e: Minor) -> bool
-    ensures { result ≡ list_any (λ x. nat_le x.since e && (is_of (named name.entry) x && is_forgetting x.change)) entries.now }
+    ensures { result ≡ list_any (is_change_by is_forgetting (named name.entry) e) entries.now }
 {
     entries.iter().any(|x| x.since <= e && (is_of(x, name) && x.change.is_forgetting()))
 }
 
 fn deprecation<'a>(entries: &'a [ApiEntry], name: ApiName<'_>, e: Minor) -> Option<&'a ApiEntry>
-    ensures { option_copied result ≡ find (λ x. nat_le x.since e && (is_of (named name.entry) x && is_deprecation x.change)) entries.now }
+    ensures { option_copied result
+        ≡ find (is_change_by is_deprecation (named name.entry) e) entries.now }
 {
     entries.iter().find(|x| x.since <= e && (is_of(x, name) && x.change.is_deprecation()))
 }

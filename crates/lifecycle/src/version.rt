@@ -54,7 +54,8 @@ impl PartialOrd for VersionWord {
 
     ghost partial_cmp = { as_partial_cmp by_stability };
 
-    ghost laws = { partial_order_from_agreeing_total by_stability (Prim.search (comparing, rules)) (Prim.search (comparing, rules)) (Prim.search (comparing, rules)) };
+    ghost laws = { partial_order_from_agreeing_total by_stability (Prim.search (comparing, rules))
+        (Prim.search (comparing, rules)) (Prim.search (comparing, rules)) };
 
     fn partial_cmp(&self, other: &VersionWord) -> Option<Ordering> {
         Some(self.cmp(other))
@@ -64,7 +65,8 @@ impl PartialOrd for VersionWord {
 impl Level {
     ghost use Rattle.lifecycle.specs.Stability.{rank_of, number_of};
 
-    fn rank(self) -> u8
+    /// How far the level is from general availability: 0 for that, 1 for a beta, 2 for an alpha.
+    pub fn rank(self) -> u8
         ensures { result ≡ rank_of self }
     {
         match self {
