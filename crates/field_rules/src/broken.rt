@@ -46,7 +46,8 @@ pub fn first_broken(
     fields: &[Field],
     spells: &[Spell],
 ) -> Result<Option<Broken>, Memory>
-    ensures { IfOk result (FindsFault (lists first gates.now apis.now fields.now spells.now) field_checks) }
+    ensures { IfOk result
+        (FindsFault (lists first gates.now apis.now fields.now spells.now) field_checks) }
 {
     let index = Index::new(alloc, first, gates, apis, fields, spells)?;
     match first_misplaced(alloc, &index, fields) {

@@ -27,7 +27,8 @@ fn is_forgetting(change: &ApiChange) -> bool
 
 /// Whether one of the entries is an introduction by this release.
 pub fn has_introduction_by(entries: Option<&Vec<&ApiEntry>>, by: Minor) -> bool
-    ensures { IsTrue result ↔ HasLent (λ x. IsIntroduction x.change × (x.since ≤ by)) entries.entry }
+    ensures { IsTrue result
+        ↔ HasLent (λ x. IsIntroduction x.change × (x.since ≤ by)) entries.entry }
 {
     match entries {
         Some(entries) => {
@@ -41,7 +42,8 @@ pub fn has_introduction_by(entries: Option<&Vec<&ApiEntry>>, by: Minor) -> bool
 
 /// Whether each introduction among the entries is dated at or after this release.
 pub fn are_introduced_since(entries: Option<&Vec<&ApiEntry>>, since: Minor) -> bool
-    ensures { IsTrue result ↔ EachLent (λ x. IsIntroduction x.change → since ≤ x.since) entries.entry }
+    ensures { IsTrue result
+        ↔ EachLent (λ x. IsIntroduction x.change → since ≤ x.since) entries.entry }
 {
     match entries {
         Some(entries) => {
@@ -139,7 +141,8 @@ pub fn is_apart_from(entries: Option<&Vec<&Spell>>, spell: &Spell) -> bool
 /// Whether the spelling fits each of the fields that has its id.
 pub fn fits_fields(entries: Option<&Vec<&Field>>, spell: &Spell) -> bool
     ensures { IsTrue result
-        ↔ EachLent (λ x. x.id ≡ spell.now.field → FitsType x.ty spell.now.form spell.now.default) entries.entry }
+        ↔ EachLent (λ x. x.id ≡ spell.now.field
+        → FitsType x.ty spell.now.form spell.now.default) entries.entry }
 {
     match entries {
         Some(entries) => {

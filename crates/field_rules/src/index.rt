@@ -60,23 +60,14 @@ impl<'a> Index<'a> {
         fields: &'a [Field],
         spells: &'a [Spell],
     ) -> Result<Self, Memory>
-        ensures { IfOk result (λ index. index ≡ lists first gates.now apis.now fields.now spells.now) }
+        ensures { IfOk result (λ index.
+            index ≡ lists first gates.now apis.now fields.now spells.now) }
     {
-        let Ok(gates_by_name) = list_gates(alloc, gates) else {
-            return Err(Memory);
-        };
-        let Ok(apis_by_resource) = list_resources(alloc, apis) else {
-            return Err(Memory);
-        };
-        let Ok(apis_by_version) = list_versions(alloc, apis) else {
-            return Err(Memory);
-        };
-        let Ok(fields_by_resource) = list_fields(alloc, fields) else {
-            return Err(Memory);
-        };
-        let Ok(spells_by_version) = list_spells(alloc, spells) else {
-            return Err(Memory);
-        };
+        let gates_by_name = list_gates(alloc, gates)?;
+        let apis_by_resource = list_resources(alloc, apis)?;
+        let apis_by_version = list_versions(alloc, apis)?;
+        let fields_by_resource = list_fields(alloc, fields)?;
+        let spells_by_version = list_spells(alloc, spells)?;
         Ok(Index {
             first,
             gates,
@@ -101,7 +92,8 @@ impl<'a> Index<'a> {
     /// Whether some version of the field's resource is introduced by this release.
     pub fn is_versioned_by(&self, field: &'a Field, by: Minor) -> bool
         ensures { IsTrue result
-            ↔ Any (λ x. IntroducesVersionOf field.now.group field.now.resource x × (x.since ≤ by)) self.now.apis }
+            ↔ Any (λ x. IntroducesVersionOf field.now.group field.now.resource x
+            × (x.since ≤ by)) self.now.apis }
     {
         let group = field.group.bytes();
         let resource = field.resource.bytes();
@@ -111,7 +103,8 @@ impl<'a> Index<'a> {
     /// Whether each version of the field's resource is introduced at or after the field's date.
     pub fn is_from_start(&self, field: &'a Field) -> bool
         ensures { IsTrue result
-            ↔ All (λ x. IntroducesVersionOf field.now.group field.now.resource x → field.now.since ≤ x.since) self.now.apis }
+            ↔ All (λ x. IntroducesVersionOf field.now.group field.now.resource x
+            → field.now.since ≤ x.since) self.now.apis }
     {
         let group = field.group.bytes();
         let resource = field.resource.bytes();
@@ -144,7 +137,8 @@ impl<'a> Index<'a> {
 
     fn has_spelling_in(&self, field: &'a Field, entry: &'a ApiEntry) -> bool
         ensures { IsTrue result
-            ↔ Any (λ s. IsOfVersion (subject entry.now) s × (s.field ≡ field.now.id)) self.now.spells }
+            ↔ Any (λ s. IsOfVersion (subject entry.now) s
+            × (s.field ≡ field.now.id)) self.now.spells }
     {
         let group = entry.group.bytes();
         let version = entry.version.bytes();
@@ -185,7 +179,8 @@ impl<'a> Index<'a> {
     /// Whether each pair of the field with a version has a spelling.
     pub fn is_spelled_throughout(&self, field: &'a Field) -> bool
         ensures { IsTrue result
-            ↔ All (λ x. IsPair self.now.apis field.now x → Any (IsSpelling field.now (subject x)) self.now.spells) self.now.apis }
+            ↔ All (λ x. IsPair self.now.apis field.now x
+            → Any (IsSpelling field.now (subject x)) self.now.spells) self.now.apis }
     {
         let group = field.group.bytes();
         let resource = field.resource.bytes();
@@ -194,7 +189,8 @@ impl<'a> Index<'a> {
 
     fn is_introduced_for(&self, field: &Field, spell: &'a Spell) -> bool
         ensures { IsTrue result
-            ↔ Any (λ x. IsOfVersion (subject x) spell.now × IsIntroduction x.change × (spell.now.since ≡ max field.now.since x.since)) self.now.apis }
+            ↔ Any (λ x. IsOfVersion (subject x) spell.now × IsIntroduction x.change
+            × (spell.now.since ≡ max field.now.since x.since)) self.now.apis }
     {
         let group = spell.group.bytes();
         let version = spell.version.bytes();
@@ -220,7 +216,8 @@ impl<'a> Index<'a> {
 
     fn pairs_with_one(&self, entries: Option<&Vec<&'a Field>>, spell: &'a Spell) -> bool
         ensures { IsTrue result
-            ↔ HasLent (λ f. (f.id ≡ spell.now.field) × PairsWith self.now f spell.now) entries.entry }
+            ↔ HasLent (λ f. (f.id ≡ spell.now.field)
+            × PairsWith self.now f spell.now) entries.entry }
     {
         let Some(entries) = entries else {
             return false;
@@ -248,7 +245,8 @@ impl<'a> Index<'a> {
     /// Whether the spelling fits the type of its field.
     pub fn fits_field(&self, spell: &'a Spell) -> bool
         ensures { IsTrue result
-            ↔ All (λ f. IsOfField f spell.now → FitsType f.ty spell.now.form spell.now.default) self.now.fields }
+            ↔ All (λ f. IsOfField f spell.now
+            → FitsType f.ty spell.now.form spell.now.default) self.now.fields }
     {
         let group = spell.group.bytes();
         let resource = spell.resource.bytes();

@@ -67,7 +67,8 @@ pub fn take_field<'a>(
     fields: &mut Listing<'a, Field>,
     entry: &'a Field,
 ) -> Result<(), Memory>
-    ensures { OnOk result ((entries : List TheField) → IsListing resource_of_field entries fields.old
+    ensures { OnOk result ((entries : List TheField)
+        → IsListing resource_of_field entries fields.old
         → IsListing resource_of_field (entries ++ entry.now ∷ []) fields.new) }
 {
     let (group, resource, rest) = resource_of_field(entry);

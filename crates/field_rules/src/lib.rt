@@ -7,7 +7,6 @@ mod index;
 mod keys;
 mod on_fields;
 mod on_spellings;
-mod paths;
 mod types;
 
 pub use broken::first_broken;

@@ -59,17 +59,15 @@ pub fn first_misplaced<'a>(
     index: &Index<'a>,
     fields: &'a [Field],
 ) -> Result<Option<u64>, Memory>
-    ensures { IfOk result (FindsFirst (BelongsToResource (first_of index.now) index.now.apis) fields.now) }
+    ensures { IfOk result
+        (FindsFirst (BelongsToResource (first_of index.now) index.now.apis) fields.now) }
 {
     let mut earlier: Listing<'a, Field> = BTreeMap::new(alloc);
     for (i, field) in fields.iter().enumerate() {
         if !belongs(index, &earlier, field) {
             return Ok(Some(i as u64 + 1));
         }
-        match take_field(alloc, &mut earlier, field) {
-            Ok(()) => {}
-            Err(Memory) => return Err(Memory),
-        }
+        take_field(alloc, &mut earlier, field)?;
     }
     Ok(None)
 }

@@ -11,9 +11,8 @@ ghost use Rattle.schemas.specs.SpellRules.{SpellsPairOnce, HasOwnPath, FitsField
 use crate::entries::{has_spelling, is_apart_from};
 use crate::index::Index;
 use crate::keys::take_spell;
-use crate::paths::begins_free;
 use basis::Memory;
-use fields::Spell;
+use fields::{Spell, begins_free};
 use listing::{Listing, listed};
 use std::alloc::Global;
 use std::collections::BTreeMap;
@@ -48,17 +47,15 @@ pub fn first_unpaired<'a>(
         if !spells_pair_once(index, &earlier, spell) {
             return Ok(Some(i as u64 + 1));
         }
-        match take_spell(alloc, &mut earlier, spell) {
-            Ok(()) => {}
-            Err(Memory) => return Err(Memory),
-        }
+        take_spell(alloc, &mut earlier, spell)?;
     }
     Ok(None)
 }
 
 fn is_apart<'a>(earlier: &Listing<'a, Spell>, spell: &'a Spell) -> bool
     ensures { (spells : List TheSpell) → IsListing version_of_spell spells earlier.now
-        → IsTrue result ↔ All (λ t. AreForOneVersion spell.now t → AreApart spell.now.path t.path) spells }
+        → IsTrue result
+        ↔ All (λ t. AreForOneVersion spell.now t → AreApart spell.now.path t.path) spells }
 {
     let group = spell.group.bytes();
     let version = spell.version.bytes();
@@ -82,10 +79,7 @@ pub fn first_met_path(alloc: Global, spells: &[Spell]) -> Result<Option<u64>, Me
         if !has_own_path(&earlier, spell) {
             return Ok(Some(i as u64 + 1));
         }
-        match take_spell(alloc, &mut earlier, spell) {
-            Ok(()) => {}
-            Err(Memory) => return Err(Memory),
-        }
+        take_spell(alloc, &mut earlier, spell)?;
     }
     Ok(None)
 }

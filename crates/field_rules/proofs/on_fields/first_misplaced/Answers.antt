@@ -21,7 +21,7 @@ loop-i-preserved c =
     take_more c.args.fields.now c.loop-i.i c.index-fields-i.result c.loop-i-test.true ∙ ap (λ (x : Field). take c.loop-i.i c.args.fields.now ++ x ∷ []) (sym c.index-fields-i.is) in
     record {
       before = each_more (BelongsToResource (first_of c.args.index.now) c.args.index.now.apis) c.args.fields.now c.loop-i.i c.index-fields-i.result c.loop-i-test.true c.index-fields-i.is c.loop-i.invariant.before here;
-      earlier = subst (λ (l : List Field). IsListing resource_of_field l c.take_field.new.fields) (sym more) (c.in-Ok.ensures (take c.loop-i.i c.args.fields.now) c.loop-i.invariant.earlier);
+      earlier = subst (λ (l : List Field). IsListing resource_of_field l c.take_field.new.fields) (sym more) (c.in_ok-take_field.ensures (take c.loop-i.i c.args.fields.now) c.loop-i.invariant.earlier);
     }
 
 pub returns : goal.returns

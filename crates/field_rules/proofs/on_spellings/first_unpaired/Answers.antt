@@ -20,7 +20,7 @@ loop-i-preserved c =
     take_more c.args.spells.now c.loop-i.i c.index-spells-i.result c.loop-i-test.true ∙ ap (λ (x : Spell). take c.loop-i.i c.args.spells.now ++ x ∷ []) (sym c.index-spells-i.is) in
     record {
       before = each_more (SpellsPairOnce c.args.index.now.apis c.args.index.now.fields) c.args.spells.now c.loop-i.i c.index-spells-i.result c.loop-i-test.true c.index-spells-i.is c.loop-i.invariant.before here;
-      earlier = subst (λ (l : List Spell). IsListing version_of_spell l c.take_spell.new.spells) (sym more) (c.in-Ok.ensures (take c.loop-i.i c.args.spells.now) c.loop-i.invariant.earlier);
+      earlier = subst (λ (l : List Spell). IsListing version_of_spell l c.take_spell.new.spells) (sym more) (c.in_ok-take_spell.ensures (take c.loop-i.i c.args.spells.now) c.loop-i.invariant.earlier);
     }
 
 pub returns : goal.returns
