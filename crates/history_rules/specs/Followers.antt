@@ -6,13 +6,15 @@ use Rattle.lifecycle.specs.declared.entry.ApiEntry.{ApiEntry}
 use Rattle.schemas.specs.ApiRules.{IsForgottenBefore}
 use Rattle.basis.specs.NameMap.{value_at, is_same_name}
 
--- the map has for each version when those are all forgotten that the entries deprecate in its favour
+-- the map has for each version when those are all forgotten that the entries deprecate in its
+-- favour
 abbrev pub HasFollowers :
     List ApiEntry → List ApiEntry → BTreeMap (Bor (List ℕ) × Bor (List ℕ) × Bor (List ℕ)) (Option ℕ)
     → Type 0
 HasFollowers all entries followers =
     (x : ApiEntry)
-    → IfSome (value_at followers x.group x.version x.resource) (λ date. IsSomeAnd date (λ d. d ≤ x.since))
+    → IfSome (value_at followers x.group x.version x.resource)
+    (λ date. IsSomeAnd date (λ d. d ≤ x.since))
     ↔ All (IsForgottenBefore all x) entries
 
 -- the map gets the date at the replacement of the entry's version, where it has no later one there

@@ -15,7 +15,8 @@ abbrev pub HasChanges :
     List ApiEntry → BTreeMap (Bor (List ℕ) × Bor (List ℕ) × Bor (List ℕ)) (Bor ApiChange) → Type 0
 HasChanges entries changes =
     (group resource : List ℕ) (change : ApiChange)
-    → IfSome (option_copied (value_at changes group resource [])) (λ known. AgreeInKind change known)
+    → IfSome (option_copied (value_at changes group resource []))
+    (λ known. AgreeInKind change known)
     ↔ All (λ y. y.group ≡ group → y.resource ≡ resource → AgreeInKind change y.change) entries
 
 -- no introduction with this kind

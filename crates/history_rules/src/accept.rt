@@ -22,7 +22,8 @@ use std::alloc::Global;
 
 /// The first and the last release, where both are there and the first isn't above the last (HR1).
 fn releases(h: &History) -> Option<(Minor, Minor)>
-    ensures some { IfSome result (λ r. HasReleases h.now × (first_of h.now ≡ r.0) × (last_of h.now ≡ r.1)) }
+    ensures some { IfSome result (λ r. HasReleases h.now × (first_of h.now ≡ r.0)
+        × (last_of h.now ≡ r.1)) }
     ensures none { IfNone result (¬ HasReleases h.now) }
 {
     match (h.first, h.last) {
@@ -66,7 +67,8 @@ fn first_late_entry(last: Minor, h: &History) -> Option<Broken>
 
 /// The first fault of the gates: the rules HR3 to HR5.
 fn first_gate_fault(alloc: Global, gates: &[GateEntry]) -> Result<Option<Broken>, Memory>
-    ensures { IfOk result (λ found. (h : Dated) → h.gates ≡ gates.now → FindsFault h gate_checks found) }
+    ensures { IfOk result (λ found. (h : Dated) → h.gates ≡ gates.now
+        → FindsFault h gate_checks found) }
 {
     let previous = link_gates(alloc, gates)?;
     if let Some(index) = first_not_rising(gates, &previous) {
@@ -83,7 +85,8 @@ fn first_gate_fault(alloc: Global, gates: &[GateEntry]) -> Result<Option<Broken>
 
 /// The first fault of the versions: the rules HR6 to HR10.
 fn first_api_fault(alloc: Global, last: Minor, apis: &[ApiEntry]) -> Result<Option<Broken>, Memory>
-    ensures { IfOk result (λ found. (h : Dated) → last_of h ≡ last → h.apis ≡ apis.now → FindsFault h api_checks found) }
+    ensures { IfOk result (λ found. (h : Dated) → last_of h ≡ last → h.apis ≡ apis.now
+        → FindsFault h api_checks found) }
 {
     let previous = link_versions(alloc, apis)?;
     let all = Dates::new(alloc, apis)?;

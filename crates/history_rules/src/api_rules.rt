@@ -1,7 +1,6 @@
 //! The rules on versions of resources: for each, the number of the first entry that breaks it.
 ghost use Rattle.std.specs.Prelude.{◌≡◌, ◌↔◌, List, [], IsTrue, IfOk, codes, length};
 ghost use Rattle.std.specs.Option.{option_copied};
-ghost use Rattle.lifecycle.specs.Stability.{rank_of};
 ghost use Rattle.lifecycle.specs.declared.entry.ApiEntry.{ApiEntry as TheEntry};
 ghost use Rattle.schemas.specs.Places.{FindsFirst};
 ghost use Rattle.schemas.specs.ApiRules.{previous_of_version, notice_of, HasLawfulName, IsNext, StandsInOrder, NamesItsKind, IsFairBetween, IsFairDeprecation, IsFairChange, DeprecatesFairly, IsPlanned, IsKept, KeepsPlan, IsLateAfter, IsForgottenLate, ForgetsLate};
@@ -19,7 +18,8 @@ use std::alloc::Global;
 const READABLE_RELEASES: u16 = 3;
 
 fn is_next(previous: Option<&ApiEntry>, entry: &ApiEntry) -> bool
-    ensures { IsTrue result ↔ IsNext (option_copied previous.entry) entry.now.since entry.now.change }
+    ensures { IsTrue result
+        ↔ IsNext (option_copied previous.entry) entry.now.since entry.now.change }
 {
     match (&entry.change, previous) {
         (ApiChange::Introduced { .. }, None) => true,
@@ -94,22 +94,9 @@ pub fn first_mixed_kind(alloc: Global, entries: &[ApiEntry]) -> Result<Option<u6
         if !names_its_kind(&kinds, entry) {
             return Ok(Some(i as u64 + 1));
         }
-        match kinds.take_in(entry) {
-            Ok(()) => {}
-            Err(Memory) => return Err(Memory),
-        }
+        kinds.take_in(entry)?;
     }
     Ok(None)
-}
-
-fn rank(level: Level) -> u8
-    ensures { result ≡ rank_of level }
-{
-    match level {
-        Level::Ga => 0,
-        Level::Beta(_) => 1,
-        Level::Alpha(_) => 2,
-    }
 }
 
 fn notice(level: Level) -> u16
@@ -133,7 +120,7 @@ fn is_fair_between<'a>(
 {
     entry.since.number() + notice(own) <= removal.number()
         && entry.version != *replacement
-        && rank(other) <= rank(own)
+        && other.rank() <= own.rank()
         && all.is_introduced(
             entry.group.bytes(),
             replacement.bytes(),

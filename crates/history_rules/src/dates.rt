@@ -55,10 +55,7 @@ impl Event {
     {
         let mut dates: NameMap<'a, Minor> = BTreeMap::new(alloc);
         for entry in entries {
-            match self.take_in(&mut dates, entry) {
-                Ok(()) => {}
-                Err(Memory) => return Err(Memory),
-            }
+            self.take_in(&mut dates, entry)?;
         }
         Ok(dates)
     }
@@ -114,15 +111,9 @@ impl<'a> Dates<'a> {
     pub fn new(alloc: Global, entries: &'a [ApiEntry]) -> Result<Self, Memory>
         ensures { IfOk result (λ dates. dates ≡ entries.now) }
     {
-        let Ok(introduced) = Event::Introduction.earliest(alloc, entries) else {
-            return Err(Memory);
-        };
-        let Ok(removed) = Event::Removal.earliest(alloc, entries) else {
-            return Err(Memory);
-        };
-        let Ok(followers) = follow(alloc, entries) else {
-            return Err(Memory);
-        };
+        let introduced = Event::Introduction.earliest(alloc, entries)?;
+        let removed = Event::Removal.earliest(alloc, entries)?;
+        let followers = follow(alloc, entries)?;
         Ok(Dates {
             entries,
             introduced,
@@ -139,7 +130,8 @@ impl<'a> Dates<'a> {
         resource: &'a [u8],
         e: Minor,
     ) -> bool
-        ensures { IsTrue result ↔ IsIntroduced self.now (name_of group.now version.now resource.now) e }
+        ensures { IsTrue result
+            ↔ IsIntroduced self.now (name_of group.now version.now resource.now) e }
     {
         is_by(value_of(&self.introduced, group, version, resource), e)
     }
@@ -152,7 +144,8 @@ impl<'a> Dates<'a> {
         resource: &'a [u8],
         e: Minor,
     ) -> bool
-        ensures { IsTrue result ↔ IsRemoved self.now (name_of group.now version.now resource.now) e }
+        ensures { IsTrue result
+            ↔ IsRemoved self.now (name_of group.now version.now resource.now) e }
     {
         is_by(value_of(&self.removed, group, version, resource), e)
     }

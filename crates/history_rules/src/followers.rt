@@ -18,7 +18,8 @@ pub type Followers<'a> = NameMap<'a, Option<Minor>>;
 /// The later of the date and a date that may be there already, where neither is missing.
 fn later(known: Option<Option<Minor>>, date: Option<Minor>) -> Option<Minor>
     ensures { (e : ℕ)
-        → IsSomeAnd result (λ d. d ≤ e) ↔ (IfSome known (λ k. IsSomeAnd k (λ d. d ≤ e)) × IsSomeAnd date (λ d. d ≤ e)) }
+        → IsSomeAnd result (λ d. d ≤ e)
+        ↔ (IfSome known (λ k. IsSomeAnd k (λ d. d ≤ e)) × IsSomeAnd date (λ d. d ≤ e)) }
 {
     match (known, date) {
         (None, date) => date,
@@ -45,7 +46,8 @@ fn put_later<'a>(
 /// When the entry's version is forgotten.
 fn forgotten_in<'a>(forgotten: &NameMap<'a, Minor>, entry: &'a ApiEntry) -> Option<Minor>
     ensures { (all : List TheEntry) (e : ℕ) → HasEarliest Event.Forgetting all forgotten.now
-        → IsSomeAnd result (λ d. d ≤ e) ↔ IsForgotten all (name_of entry.now.group entry.now.version entry.now.resource) e }
+        → IsSomeAnd result (λ d. d ≤ e)
+        ↔ IsForgotten all (name_of entry.now.group entry.now.version entry.now.resource) e }
 {
     let group = entry.group.bytes();
     let version = entry.version.bytes();
@@ -58,7 +60,8 @@ fn take_in<'a>(
     forgotten: &NameMap<'a, Minor>,
     entry: &'a ApiEntry,
 ) -> Result<(), Memory>
-    ensures { OnOk result ((all entries : List TheEntry) → HasEarliest Event.Forgetting all forgotten.now
+    ensures { OnOk result ((all entries : List TheEntry)
+        → HasEarliest Event.Forgetting all forgotten.now
         → HasFollowers all entries followers.old
         → HasFollowers all (entries ++ entry.now ∷ []) followers.new) }
 {
@@ -79,15 +82,10 @@ fn take_in<'a>(
 pub fn follow<'a>(alloc: Global, entries: &'a [ApiEntry]) -> Result<Followers<'a>, Memory>
     ensures { IfOk result (HasFollowers entries.now entries.now) }
 {
-    let Ok(forgotten) = Event::Forgetting.earliest(alloc, entries) else {
-        return Err(Memory);
-    };
+    let forgotten = Event::Forgetting.earliest(alloc, entries)?;
     let mut followers: Followers<'a> = BTreeMap::new(alloc);
     for entry in entries {
-        match take_in(&mut followers, &forgotten, entry) {
-            Ok(()) => {}
-            Err(Memory) => return Err(Memory),
-        }
+        take_in(&mut followers, &forgotten, entry)?;
     }
     Ok(followers)
 }

@@ -69,7 +69,8 @@ pub fn first_unfit_spec(entries: &[GateEntry]) -> Option<u64>
 }
 
 fn is_ripe(previous: Option<&GateEntry>, entry: &GateEntry) -> bool
-    ensures { IsTrue result ↔ IsRipe (option_copied previous.entry) entry.now.since entry.now.change }
+    ensures { IsTrue result
+        ↔ IsRipe (option_copied previous.entry) entry.now.since entry.now.change }
 {
     match (entry.change, previous) {
         (GateChange::Spec { .. }, _) => true,

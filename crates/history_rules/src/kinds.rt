@@ -98,7 +98,9 @@ impl<'a> Kinds<'a> {
 
     fn agree_with(&self, entry: &'a ApiEntry) -> bool
         ensures { IsTrue result
-            ↔ IfSome (option_copied (value_at self.now.changes entry.now.group entry.now.resource [])) (λ y. AgreeInKind entry.now.change y) }
+            ↔ IfSome
+            (option_copied (value_at self.now.changes entry.now.group entry.now.resource []))
+            (λ y. AgreeInKind entry.now.change y) }
     {
         let group = entry.group.bytes();
         let resource = entry.resource.bytes();
@@ -107,7 +109,8 @@ impl<'a> Kinds<'a> {
 
     fn have_only(&self, entry: &'a ApiEntry, kind: &'a Text) -> bool
         ensures { IsTrue result
-            ↔ IfSome (option_copied (value_at self.now.resources entry.now.group kind.now [])) (λ r. r ≡ entry.now.resource) }
+            ↔ IfSome (option_copied (value_at self.now.resources entry.now.group kind.now []))
+            (λ r. r ≡ entry.now.resource) }
     {
         let group = entry.group.bytes();
         let kind = kind.bytes();
@@ -139,10 +142,7 @@ impl<'a> Kinds<'a> {
         let ApiChange::Introduced { kind, .. } = &entry.change else {
             return Ok(());
         };
-        match put_change(&mut self.changes, entry) {
-            Ok(()) => {}
-            Err(Memory) => return Err(Memory),
-        }
+        put_change(&mut self.changes, entry)?;
         put_resource(&mut self.resources, entry, kind)
     }
 }

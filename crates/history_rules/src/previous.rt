@@ -15,7 +15,8 @@ pub fn link_gates<'a>(
     alloc: Global,
     entries: &'a [GateEntry],
 ) -> Result<Vec<Option<&'a GateEntry>>, Memory>
-    ensures { IfOk result (λ links. AreLinked previous_of_gate entries.now (length entries.now) links.items) }
+    ensures { IfOk result (λ links.
+        AreLinked previous_of_gate entries.now (length entries.now) links.items) }
 {
     let mut latest: NameMap<'a, &'a GateEntry> = BTreeMap::new(alloc);
     let mut links = Vec::new(alloc);
@@ -25,10 +26,7 @@ pub fn link_gates<'a>(
             Ok(()) => {}
             Err(_) => return Err(Memory),
         }
-        match put(&mut latest, name, &[], &[], entry) {
-            Ok(()) => {}
-            Err(Memory) => return Err(Memory),
-        }
+        put(&mut latest, name, &[], &[], entry)?;
     }
     Ok(links)
 }
@@ -38,7 +36,8 @@ pub fn link_versions<'a>(
     alloc: Global,
     entries: &'a [ApiEntry],
 ) -> Result<Vec<Option<&'a ApiEntry>>, Memory>
-    ensures { IfOk result (λ links. AreLinked previous_of_version entries.now (length entries.now) links.items) }
+    ensures { IfOk result (λ links.
+        AreLinked previous_of_version entries.now (length entries.now) links.items) }
 {
     let mut latest: NameMap<'a, &'a ApiEntry> = BTreeMap::new(alloc);
     let mut links = Vec::new(alloc);
@@ -50,10 +49,7 @@ pub fn link_versions<'a>(
             Ok(()) => {}
             Err(_) => return Err(Memory),
         }
-        match put(&mut latest, group, version, resource, entry) {
-            Ok(()) => {}
-            Err(Memory) => return Err(Memory),
-        }
+        put(&mut latest, group, version, resource, entry)?;
     }
     Ok(links)
 }

@@ -19,7 +19,7 @@ loop-i-preserved c =
     take_more c.args.entries.now c.loop-i.i c.index-entries-i.result c.loop-i-test.true ∙ ap (λ (x : ApiEntry). take c.loop-i.i c.args.entries.now ++ x ∷ []) (sym c.index-entries-i.is) in
     record {
       each = each_more NamesItsKind c.args.entries.now c.loop-i.i c.index-entries-i.result c.loop-i-test.true c.index-entries-i.is c.loop-i.invariant.each here;
-      kinds = subst (λ (l : List ApiEntry). AreKindsOf l c.take_in.new.self) (sym more) (c.in-Ok.ensures (take c.loop-i.i c.args.entries.now) c.loop-i.invariant.kinds here.1);
+      kinds = subst (λ (l : List ApiEntry). AreKindsOf l c.take_in.new.self) (sym more) (c.in_ok-take_in.ensures (take c.loop-i.i c.args.entries.now) c.loop-i.invariant.kinds here.1);
     }
 
 pub returns : goal.returns

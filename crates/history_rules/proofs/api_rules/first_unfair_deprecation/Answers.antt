@@ -3,9 +3,6 @@ use Rattle.schemas.specs.ApiRules.{DeprecatesFairly}
 use Rattle.schemas.proofs.PlaceLemmas.{each_more, each_whole, first_broken}
 use Rattle.history_rules.proofs.api_rules.first_unfair_deprecation.Goals as goal
 
-pub loop-i-init : goal.loop-i-init
-loop-i-init c = search rules
-
 pub returns-then-not-is_fair : goal.returns-then-not-is_fair
 returns-then-not-is_fair c = first_broken (DeprecatesFairly c.args.all.now) c.args.entries.now c.loop-i.i c.index-entries-i.result c.loop-i-test.true c.index-entries-i.is c.loop-i.invariant (search rules)
 

@@ -8,7 +8,7 @@ pub loop-entry-preserved : goal.loop-entry-preserved
 loop-entry-preserved c =
     let more : take (c.loop-entry.entry-index + 1) c.args.entries.now ≡ take c.loop-entry.entry-index c.args.entries.now ++ c.entry-item.result ∷ [] =
     take_more c.args.entries.now c.loop-entry.entry-index c.entry-item.result c.loop-entry-test.true ∙ ap (λ (x : ApiEntry). take c.loop-entry.entry-index c.args.entries.now ++ x ∷ []) (sym c.entry-item.is) in
-    subst (λ (l : List ApiEntry). HasFollowers c.args.entries.now l c.take_in.new.followers) (sym more) (c.in-Ok-take_in.ensures c.args.entries.now (take c.loop-entry.entry-index c.args.entries.now) c.in-Ok.ensures c.loop-entry.invariant)
+    subst (λ (l : List ApiEntry). HasFollowers c.args.entries.now l c.take_in.new.followers) (sym more) (c.in_ok-take_in.ensures c.args.entries.now (take c.loop-entry.entry-index c.args.entries.now) c.in_ok-forgotten.ensures c.loop-entry.invariant)
 
 pub returns : goal.returns
 returns c =

@@ -5,9 +5,6 @@ use Rattle.schemas.proofs.PlaceLemmas.{each_more, each_whole, first_broken}
 use Rattle.history_rules.proofs.LinkLemmas.{link_at}
 use Rattle.history_rules.proofs.gate_rules.first_not_rising.Goals as goal
 
-pub loop-i-init : goal.loop-i-init
-loop-i-init c = search rules
-
 pub returns-then-not-rises : goal.returns-then-not-rises
 returns-then-not-rises c = first_broken RisesInGate c.args.entries.now c.loop-i.i c.index-entries-i.result c.loop-i-test.true c.index-entries-i.is c.loop-i.invariant
     (subst (λ (o : Option GateEntry). ¬ RisesFrom o c.index-entries-i.result.since) (link_at previous_of_gate c.args.entries.now c.args.previous.now c.loop-i.i c.index-entries-i.result c.index-previous-i.result c.requires c.loop-i-test.true c.index-entries-i.is c.index-previous-i.is) (search rules))

@@ -3,9 +3,6 @@ use Rattle.schemas.specs.GateRules.{FitsStage}
 use Rattle.schemas.proofs.PlaceLemmas.{each_more, each_whole, first_broken}
 use Rattle.history_rules.proofs.gate_rules.first_unfit_spec.Goals as goal
 
-pub loop-i-init : goal.loop-i-init
-loop-i-init c = search rules
-
 pub returns-then-not-fits_stage : goal.returns-then-not-fits_stage
 returns-then-not-fits_stage c = first_broken FitsStage c.args.entries.now c.loop-i.i c.index-entries-i.result c.loop-i-test.true c.index-entries-i.is c.loop-i.invariant (search rules)
 

@@ -2,9 +2,6 @@ use Rattle.std.proofs.Common.{rules, arith, ◌≤◌}
 use Rattle.schemas.proofs.PlaceLemmas.{each_more, each_whole, first_broken}
 use Rattle.history_rules.proofs.late.first_late.Goals as goal
 
-pub loop-i-init : goal.loop-i-init
-loop-i-init g c = search rules
-
 pub returns-then-gt : goal.returns-then-gt
 returns-then-gt g c = first_broken (λ earlier x. g.E.Entry.since_of x ≤ c.args.last) c.args.entries.now c.loop-i.i c.index-entries-i.result c.loop-i-test.true c.index-entries-i.is c.loop-i.invariant (search rules)
 

@@ -25,6 +25,6 @@ loop-entry-preserved c =
     (subst (λ (a : List ℕ). option_copied (value_at c.loop-entry.latest c.bytes-group.result.now c.bytes-version.result.now c.bytes-resource.result.now) ≡ last_passing (λ y. bytes_eq c.bytes-group.result.now y.group && bytes_eq c.bytes-version.result.now y.version && bytes_eq a y.resource) (take c.loop-entry.entry-index c.args.entries.now)) c.bytes-resource.ensures
     (c.loop-entry.invariant.latest c.bytes-group.result.now c.bytes-version.result.now c.bytes-resource.result.now))) in
     record {
-      latest = λ group version resource. latest_more (λ y. bytes_eq group y.group && bytes_eq version y.version && bytes_eq resource y.resource) c.args.entries.now c.loop-entry.entry-index c.entry-item.result _ (is_same_name c.bytes-group.result.now c.bytes-version.result.now c.bytes-resource.result.now group version resource) _ _ stands refl (three_parts c.bytes-group.result.now c.bytes-version.result.now c.bytes-resource.result.now c.entry-item.result.group c.entry-item.result.version c.entry-item.result.resource group version resource c.bytes-group.ensures c.bytes-version.ensures c.bytes-resource.ensures) (c.in-Ok-put.ensures.ok group version resource) (c.loop-entry.invariant.latest group version resource);
+      latest = λ group version resource. latest_more (λ y. bytes_eq group y.group && bytes_eq version y.version && bytes_eq resource y.resource) c.args.entries.now c.loop-entry.entry-index c.entry-item.result _ (is_same_name c.bytes-group.result.now c.bytes-version.result.now c.bytes-resource.result.now group version resource) _ _ stands refl (three_parts c.bytes-group.result.now c.bytes-version.result.now c.bytes-resource.result.now c.entry-item.result.group c.entry-item.result.version c.entry-item.result.resource group version resource c.bytes-group.ensures c.bytes-version.ensures c.bytes-resource.ensures) (c.in_ok-put.ensures.ok group version resource) (c.loop-entry.invariant.latest group version resource);
       links = subst (AreLinked previous_of_version c.args.entries.now (c.loop-entry.entry-index + 1)) (sym c.in-Ok.ensures.items) (linked_more previous_of_version c.args.entries.now c.loop-entry.entry-index c.loop-entry.links.items c.entry-item.result c.value_of.result stands here c.loop-entry.invariant.links);
     }

@@ -17,7 +17,7 @@ returns-in_default c = λ (entries : List ApiEntry) (known : AreKindsOf entries 
 pub returns : goal.returns
 returns c = on_ok c.put_resource.result
     (λ (put : PutsResource c.args.entry.now c.in-Introduced.kind c.args.self.now.resources c.put_resource.new.resources) (entries : List ApiEntry) (known : AreKindsOf entries c.args.self.now) (every : All (KeepKindsApart c.args.entry.now) entries). record {
-      of_changes = changes_more c.args.entry.now c.in-Introduced.kind c.in-Introduced.singular c.in-Introduced.namespaced c.in-Introduced.enabled c.args.self.now.changes c.put_change.new.changes c.in-Introduced.is c.in-Ok.ensures entries known.of_changes every;
+      of_changes = changes_more c.args.entry.now c.in-Introduced.kind c.in-Introduced.singular c.in-Introduced.namespaced c.in-Introduced.enabled c.args.self.now.changes c.put_change.new.changes c.in-Introduced.is c.in_ok-put_change.ensures entries known.of_changes every;
       of_resources = resources_more c.args.entry.now c.in-Introduced.kind c.in-Introduced.singular c.in-Introduced.namespaced c.in-Introduced.enabled c.args.self.now.resources c.put_resource.new.resources c.in-Introduced.is put entries known.of_resources every;
     })
     c.put_resource.ensures
