@@ -33,7 +33,7 @@ use Rattle.history_reader.specs.Tests.{Place, Test, Passes, IsFirstFault, MeetsR
 use Rattle.history_reader.specs.Tree.{IsReleaseAt, text_at, flag_at, tables_at}
 use Rattle.history_reader.specs.Words.{form_word, path_in, scalar_in}
 use Rattle.history_reader.proofs.ShapeLemmas.{event_met}
-use Rattle.history_reader.proofs.TableLemmas.{entries_met, arrays_passed}
+use Rattle.history_reader.proofs.TableLemmas.{document_met}
 use Rattle.history_reader.proofs.TestLemmas.{fault-here, fault-back, passed-front}
 
 -- ---- what stands at a member that holds what it must
@@ -164,13 +164,13 @@ list_of array P one (t ∷ ts) met =
 history_of : (ms : Members) → AllByRecursion Passes (document_tests ms) → (h : Dated) × IsHistory ms h
 history_of ms passed =
     let top = passed-front (table_tests Array.Top 0 ms) _ passed in
-    let arrays = arrays_passed ms passed in
+    let met = document_met ms passed in
     let first = optional_release (codes "first") ms (get_member (codes "first") ms) refl top.0 in
     let last = optional_release (codes "last") ms (get_member (codes "last") ms) refl top.1.0 in
-    let gates = list_of Array.Gate IsGateEntry gate_of (tables_at (codes "gate") ms) (entries_met Array.Gate 1 _ arrays.0) in
-    let apis = list_of Array.Api IsApiEntry api_of (tables_at (codes "api") ms) (entries_met Array.Api 1 _ arrays.1.0) in
-    let fields = list_of Array.Field IsFieldEntry field_of (tables_at (codes "field") ms) (entries_met Array.Field 1 _ arrays.1.1.0) in
-    let spells = list_of Array.Spell IsSpellEntry spell_of (tables_at (codes "spell") ms) (entries_met Array.Spell 1 _ arrays.1.1.1.0) in (
+    let gates = list_of Array.Gate IsGateEntry gate_of (tables_at (codes "gate") ms) (met Array.Gate tt) in
+    let apis = list_of Array.Api IsApiEntry api_of (tables_at (codes "api") ms) (met Array.Api tt) in
+    let fields = list_of Array.Field IsFieldEntry field_of (tables_at (codes "field") ms) (met Array.Field tt) in
+    let spells = list_of Array.Spell IsSpellEntry spell_of (tables_at (codes "spell") ms) (met Array.Spell tt) in (
       record { first = first.0; last = last.0; gates = gates.0; apis = apis.0; fields = fields.0; spells = spells.0 },
       record { first = first.1; last = last.1; gates = gates.1; apis = apis.1; fields = fields.1; spells = spells.1 },
     )

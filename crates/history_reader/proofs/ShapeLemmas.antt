@@ -21,7 +21,7 @@ use Rattle.history_reader.specs.Tests.{MeetsRows}
 use Rattle.history_reader.specs.Tree.{text_at}
 use Rattle.history_reader.specs.Words.{path_in, scalar_in}
 use Rattle.history_reader.proofs.DemandLemmas.{shaped_text, shaped_optional}
-use Rattle.history_reader.proofs.TableLemmas.{entries_met, arrays_passed}
+use Rattle.history_reader.proofs.TableLemmas.{document_met}
 
 -- entries of tables that meet their rows
 shaped_list : {X : Type 0} (array : Array) (P : Members → X → Type 0) (S : X → Type 0) → ((t : Members) (x : X) → MeetsRows (rows_of array t) t → P t x → S x)
@@ -94,13 +94,13 @@ held_minor name ms (Some k) held = held.bound
 
 pub meaning_is_shaped : (text : List ℕ) (h : Dated) → MeansHistory text h → IsShaped h
 meaning_is_shaped text h means =
-    let passed = arrays_passed means.tree means.holds.passed in
+    let met = document_met means.tree means.holds.passed in
     let is = means.holds.history in
     record {
       first = held_minor (codes "first") means.tree h.first is.first;
       last = held_minor (codes "last") means.tree h.last is.last;
-      gates = shaped_list Array.Gate IsGateEntry IsShapedGate shaped_gate _ h.gates (entries_met Array.Gate 1 _ passed.0) is.gates;
-      apis = shaped_list Array.Api IsApiEntry IsShapedApi shaped_api _ h.apis (entries_met Array.Api 1 _ passed.1.0) is.apis;
-      fields = shaped_list Array.Field IsFieldEntry IsShapedField shaped_field _ h.fields (entries_met Array.Field 1 _ passed.1.1.0) is.fields;
-      spells = shaped_list Array.Spell IsSpellEntry IsShapedSpell shaped_spell _ h.spells (entries_met Array.Spell 1 _ passed.1.1.1.0) is.spells;
+      gates = shaped_list Array.Gate IsGateEntry IsShapedGate shaped_gate _ h.gates (met Array.Gate tt) is.gates;
+      apis = shaped_list Array.Api IsApiEntry IsShapedApi shaped_api _ h.apis (met Array.Api tt) is.apis;
+      fields = shaped_list Array.Field IsFieldEntry IsShapedField shaped_field _ h.fields (met Array.Field tt) is.fields;
+      spells = shaped_list Array.Spell IsSpellEntry IsShapedSpell shaped_spell _ h.spells (met Array.Spell tt) is.spells;
     }

@@ -8,7 +8,7 @@ use Rattle.toml.specs.declared.value.Value.{Value}
 use Rattle.schemas.specs.Arrays.{array_name}
 use Rattle.schemas.specs.declared.array.Array.{Array}
 use Rattle.history_reader.specs.declared.demand.Shape.{Shape}
-use Rattle.history_reader.specs.Tree.{members_in, tables_in, items_at}
+use Rattle.history_reader.specs.Tree.{members_in, tables_in, items_at, tables_at}
 use Rattle.history_reader.specs.Demands.{AreTables, HasShape}
 use Rattle.history_reader.specs.Rows.{Row, rows_of, entry_arrays}
 use Rattle.history_reader.specs.Tests.{Place, Test, Passes, IsFirstFault, MeetsRows, row_test, unknown_test, unknown_members, is_named, tests_by, table_tests, entry_tests, array_tests, document_tests}
@@ -137,7 +137,7 @@ rows_met array index ms [] h = tt
 rows_met array index ms (r ∷ rows) h = (h.0, rows_met array index ms rows h.1)
 
 -- entries whose tests pass meet their rows
-pub entries_met : (array : Array) (n : ℕ) (ts : List Members) → AllByRecursion Passes (tests_from array n ts) → AllByRecursion (λ t. MeetsRows (rows_of array t) t) ts
+entries_met : (array : Array) (n : ℕ) (ts : List Members) → AllByRecursion Passes (tests_from array n ts) → AllByRecursion (λ t. MeetsRows (rows_of array t) t) ts
 entries_met array n [] h = tt
 entries_met array n (t ∷ ts) h = (
   rows_met array n t (rows_of array t) (passed-front _ (map (unknown_test array n) (unknown_members (rows_of array t) t)) (passed-front (table_tests array n t) _ h)),
@@ -145,5 +145,18 @@ entries_met array n (t ∷ ts) h = (
 )
 
 -- where a document passes its tests, each array does
-pub arrays_passed : (ms : Members) → AllByRecursion Passes (document_tests ms) → AllByRecursion (λ a. AllByRecursion Passes (array_tests ms a)) entry_arrays
+arrays_passed : (ms : Members) → AllByRecursion Passes (document_tests ms) → AllByRecursion (λ a. AllByRecursion Passes (array_tests ms a)) entry_arrays
 arrays_passed ms h = joined_passed (array_tests ms) entry_arrays (passed-back (table_tests Array.Top 0 ms) _ h)
+
+-- an array whose entries are read
+abbrev pub HasEntries : Array → Type 0
+HasEntries Array.Top = ⊥
+HasEntries _ = Unit {0}
+
+-- where a document passes its tests, the entries of each array meet their rows
+pub document_met : (ms : Members) → AllByRecursion Passes (document_tests ms) → (array : Array) → HasEntries array → AllByRecursion (λ t. MeetsRows (rows_of array t) t) (tables_at (array_name array) ms)
+document_met ms h Array.Top has = absurd has
+document_met ms h Array.Gate has = entries_met Array.Gate 1 _ (arrays_passed ms h).0
+document_met ms h Array.Api has = entries_met Array.Api 1 _ (arrays_passed ms h).1.0
+document_met ms h Array.Field has = entries_met Array.Field 1 _ (arrays_passed ms h).1.1.0
+document_met ms h Array.Spell has = entries_met Array.Spell 1 _ (arrays_passed ms h).1.1.1.0

@@ -1,6 +1,6 @@
--- The member table of a history document: for each table of it, which members it has, in which order,
--- and what each must hold. An array that is added to the document gets its rows here, a case of
--- `rows_of`, and its place in `entry_arrays`.
+-- The member table of a history document: for each table of it, which members it has, in which
+-- order, and what each must hold. An array that is added to the document gets its rows here, a case
+-- of `rows_of`, and its place in `entry_arrays`.
 use Rattle.std.specs.Prelude.{ℕ, Bool, false, List, [], ◌∷◌, is_some, if◌then◌else◌, codes}
 use Rattle.std.specs.declared.option.Option.{Option}
 use Rattle.std.specs.Option.{option_map_or}

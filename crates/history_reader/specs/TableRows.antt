@@ -1,4 +1,5 @@
--- The rows of a table, as the program has them: those that all tables of the array have, and its own.
+-- The rows of a table, as the program has them: those that all tables of the array have, and its
+-- own.
 use Rattle.std.specs.Prelude.{List, ◌++◌}
 use Rattle.history_reader.specs.Rows.{Row}
 use Rattle.history_reader.specs.declared.rows.TableRows.{TableRows}

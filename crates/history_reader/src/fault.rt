@@ -5,8 +5,8 @@ ghost use Rattle.std.specs.BTreeMap.{keys};
 ghost use Rattle.toml.specs.View.{table_view, items_view};
 ghost use Rattle.history_reader.specs.Tree.{tables_in};
 ghost use Rattle.history_reader.specs.Demands.{AreTables};
-ghost use Rattle.history_reader.specs.Tests.{Passes, IsFirstFault, row_test, is_named, table_tests, entry_tests, document_tests};
-ghost use Rattle.history_reader.specs.Faults.{place_of};
+ghost use Rattle.history_reader.specs.Tests.{Passes, row_test, is_named, table_tests, entry_tests, document_tests};
+ghost use Rattle.history_reader.specs.Faults.{IsFaultOf};
 ghost use Rattle.history_reader.specs.TableRows.{rows_in};
 
 use crate::demand::meets;
@@ -25,8 +25,10 @@ pub struct Fault<'a> {
 
 /// The first member, in the order of the rows, that doesn't hold what its row demands.
 fn row_fault<'a>(array: Array, index: u64, rows: &[Row], table: &'a Table) -> Option<Fault<'a>>
-    ensures some { IfSome result (λ f. IsFirstFault (map (row_test array index (table_view table.now)) rows.now) (place_of f)) }
-    ensures none { IfNone result (AllByRecursion Passes (map (row_test array index (table_view table.now)) rows.now)) }
+    ensures some { IfSome result
+        (IsFaultOf (map (row_test array index (table_view table.now)) rows.now)) }
+    ensures none { IfNone result
+        (AllByRecursion Passes (map (row_test array index (table_view table.now)) rows.now)) }
 {
     for row in rows {
         let (member, demand) = *row;
@@ -58,7 +60,8 @@ fn is_member(rows: TableRows, name: &str) -> bool
 /// The first member, in byte order, that no row names.
 fn unknown_member<'a>(rows: TableRows, table: &'a Table) -> Option<&'a str>
     ensures { option_map (λ s. s.now) result
-        ≡ option_map string_bytes (find (λ k. not (is_named (rows_in rows) (string_bytes k))) (keys table.now)) }
+        ≡ option_map string_bytes
+        (find (λ k. not (is_named (rows_in rows) (string_bytes k))) (keys table.now)) }
 {
     match table.keys().find(|key| !is_member(rows, key.as_str())) {
         Some(key) => Some(key.as_str()),
@@ -68,8 +71,8 @@ fn unknown_member<'a>(rows: TableRows, table: &'a Table) -> Option<&'a str>
 
 /// The first member, in the order of the table's rows, that doesn't hold what its row demands.
 fn known_fault<'a>(array: Array, index: u64, rows: TableRows, table: &'a Table) -> Option<Fault<'a>>
-    ensures some { IfSome result (λ f.
-        IsFirstFault (map (row_test array index (table_view table.now)) (rows_in rows)) (place_of f)) }
+    ensures some { IfSome result
+        (IsFaultOf (map (row_test array index (table_view table.now)) (rows_in rows))) }
     ensures none { IfNone result
         (AllByRecursion Passes (map (row_test array index (table_view table.now)) (rows_in rows))) }
 {
@@ -81,8 +84,9 @@ fn known_fault<'a>(array: Array, index: u64, rows: TableRows, table: &'a Table) 
 
 /// The first fault of a table of the array, or of the document's own members.
 fn table_fault<'a>(array: Array, index: u64, table: &'a Table) -> Option<Fault<'a>>
-    ensures some { IfSome result (λ f. IsFirstFault (table_tests array index (table_view table.now)) (place_of f)) }
-    ensures none { IfNone result (AllByRecursion Passes (table_tests array index (table_view table.now))) }
+    ensures some { IfSome result (IsFaultOf (table_tests array index (table_view table.now))) }
+    ensures none { IfNone result
+        (AllByRecursion Passes (table_tests array index (table_view table.now))) }
 {
     let rows = rows_of_table(array, table);
     match known_fault(array, index, rows, table) {
@@ -101,8 +105,10 @@ fn table_fault<'a>(array: Array, index: u64, table: &'a Table) -> Option<Fault<'
 /// The first fault of the entries of an array.
 fn entry_fault<'a>(array: Array, items: &'a [Value]) -> Option<Fault<'a>>
     requires { AreTables (items_view items.now) }
-    ensures some { IfSome result (λ f. IsFirstFault (entry_tests array (tables_in (items_view items.now))) (place_of f)) }
-    ensures none { IfNone result (AllByRecursion Passes (entry_tests array (tables_in (items_view items.now)))) }
+    ensures some { IfSome result
+        (IsFaultOf (entry_tests array (tables_in (items_view items.now)))) }
+    ensures none { IfNone result
+        (AllByRecursion Passes (entry_tests array (tables_in (items_view items.now)))) }
 {
     for (i, value) in items.iter().enumerate() {
         if let Some(fault) = table_fault(array, i as u64 + 1, table_of(value)) {
@@ -114,7 +120,7 @@ fn entry_fault<'a>(array: Array, items: &'a [Value]) -> Option<Fault<'a>>
 
 /// The first fault of a document.
 pub fn document_fault(table: &Table) -> Option<Fault<'_>>
-    ensures some { IfSome result (λ f. IsFirstFault (document_tests (table_view table.now)) (place_of f)) }
+    ensures some { IfSome result (IsFaultOf (document_tests (table_view table.now))) }
     ensures none { IfNone result (AllByRecursion Passes (document_tests (table_view table.now))) }
 {
     if let Some(fault) = table_fault(Array::Top, 0, table) {

@@ -51,7 +51,9 @@ fn form_of(table: &Table, member: Member) -> Form
 
 /// The value of a member that is missing or holds one.
 fn scalar_of(alloc: Global, table: &Table, member: Member) -> Result<Option<FieldValue>, Memory>
-    ensures value { IfOk result (λ found. option_and_then scalar (get_member (member_name member) (table_view table.now)) ≡ found) }
+    ensures value { IfOk result
+        (λ found. option_and_then scalar (get_member (member_name member) (table_view table.now))
+        ≡ found) }
     ensures shaped { IfOk result (λ found. IfSome found IsScalar) }
 {
     match value_of(table, member) {

@@ -22,7 +22,8 @@ fn value_at<'a>(table: &'a Table, name: &str) -> Option<&'a Value>
 
 /// What stands at a member, if anything does.
 pub fn value_of<'a>(table: &'a Table, member: Member) -> Option<&'a Value>
-    ensures { option_map (λ v. view v.now) result ≡ get_member (member_name member) (table_view table.now) }
+    ensures { option_map (λ v. view v.now) result
+        ≡ get_member (member_name member) (table_view table.now) }
 {
     value_at(table, member.name())
 }
