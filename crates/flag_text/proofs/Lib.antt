@@ -1,3 +1,4 @@
 pub mod PieceLemmas
 pub mod LastLemmas
 pub mod PassLemmas
+pub mod TwoPassLemmas

@@ -3,7 +3,6 @@ use Rattle.std.proofs.Common.{◌≡◌, ◌⊎◌, inl, inr, ap₂, ℕ, ◌+�
 use Rattle.std.proofs.lemmas.List.{take_all}
 use Rattle.std.proofs.lemmas.List.Elements.{All-more, All-weaker, All-from_recursion}
 use Rattle.std.specs.Option.{is_some, option_and_then}
-use Rattle.basis.specs.First.{IsFirst}
 use Rattle.basis.proofs.FirstLemmas.{first_at as at_read, first_refutes as refutes, first_is_one, first_or_none}
 use Rattle.flag_text.specs.Pieces.{FlagPiece}
 use Rattle.flag_text.specs.Passes.{StopsAt, HasBoolean, LacksBoolean}

@@ -8,7 +8,8 @@ use Rattle.flag_text.specs.declared.pass.PairCause.TheVariants.{NoValue, NoBoole
 use Rattle.flag_text.specs.declared.vocabulary.Vocabulary.{Vocabulary}
 
 -- the first piece that isn't fine is faulty, and stands at this place
-pub record StopsAt (Fine Faulty : FlagPiece → Type 0) (ps : List FlagPiece) (place : ℕ) : Type 0 where
+pub record StopsAt (Fine Faulty : FlagPiece → Type 0)
+    (ps : List FlagPiece) (place : ℕ) : Type 0 where
   pub piece : FlagPiece
   pub first : IsFirst Fine Faulty ps piece
   pub at : piece.place ≡ place

@@ -27,7 +27,11 @@ pub record FlagPiece : Type 0 where
 abbrev pub piece_cut : ℕ → List ℕ → Option ℕ → FlagPiece
 piece_cut place text None = record { place = place; name = trimmed text; value = None }
 piece_cut place text (Some at) =
-    record { place = place; name = trimmed (take at text); value = Some (trimmed (drop (at + 1) text)) }
+    record {
+      place = place;
+      name = trimmed (take at text);
+      value = Some (trimmed (drop (at + 1) text));
+    }
 
 -- the piece with this place and text, cut at its first `=`
 abbrev pub piece_of : ℕ × List ℕ → FlagPiece
@@ -44,4 +48,5 @@ pieces text = pieces_of (map trimmed (slice_split (λ c. c == 44) text))
 -- for each name its last piece, in order: a piece is left out where a later one has its name
 abbrev pub last_pieces : List FlagPiece → List FlagPiece
 last_pieces [] = []
-last_pieces (p ∷ ps) = (if list_any (λ q. bytes_eq q.name p.name) ps then last_pieces ps else p ∷ last_pieces ps)
+last_pieces (p ∷ ps) =
+    (if list_any (λ q. bytes_eq q.name p.name) ps then last_pieces ps else p ∷ last_pieces ps)

@@ -14,7 +14,8 @@ said words p = option_and_then (bool_of words) p.value
 
 -- the boolean that the last piece of this name says
 abbrev pub last_said : Vocabulary → List FlagPiece → List ℕ → Option Bool
-last_said words ps name = option_and_then (said words) (find (λ p. bytes_eq p.name name) (last_pieces ps))
+last_said words ps name =
+    option_and_then (said words) (find (λ p. bytes_eq p.name name) (last_pieces ps))
 
 -- the map has the boolean of the last piece of each name
 abbrev pub HasSaid : Vocabulary → List FlagPiece → BTreeMap (List ℕ) (Option Bool) → Type 0

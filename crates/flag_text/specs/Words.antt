@@ -10,7 +10,8 @@ true_words Go = codes "1" ∷ codes "t" ∷ codes "T" ∷ codes "TRUE" ∷ codes
 true_words Plain = codes "true" ∷ []
 
 abbrev pub false_words : Vocabulary → List (List ℕ)
-false_words Go = codes "0" ∷ codes "f" ∷ codes "F" ∷ codes "FALSE" ∷ codes "false" ∷ codes "False" ∷ []
+false_words Go =
+    codes "0" ∷ codes "f" ∷ codes "F" ∷ codes "FALSE" ∷ codes "false" ∷ codes "False" ∷ []
 false_words Plain = codes "false" ∷ []
 
 -- the boolean that the word says

@@ -53,14 +53,8 @@ pub fn last_pieces(
         if booleans.contains_key(&name) {
             continue;
         }
-        match booleans.insert(name, said(words, &piece)) {
-            Ok(_) => {}
-            Err(_) => return Err(Memory),
-        }
-        match last.push(piece) {
-            Ok(()) => {}
-            Err(_) => return Err(Memory),
-        }
+        booleans.insert(name, said(words, &piece))?;
+        last.push(piece)?;
     }
     last.reverse();
     Ok(LastPieces {

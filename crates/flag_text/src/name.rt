@@ -64,7 +64,9 @@ impl<'a> PartialOrd for Name<'a> {
 
     ghost partial_cmp = { as_partial_cmp (slice_cmp nat_cmp) };
 
-    ghost laws = { partial_order_from_agreeing_total (slice_cmp nat_cmp) (Prim.search (comparing, rules)) (Prim.search (comparing, rules)) (Prim.search (comparing, rules)) };
+    ghost laws = { partial_order_from_agreeing_total (slice_cmp nat_cmp)
+        (Prim.search (comparing, rules)) (Prim.search (comparing, rules))
+        (Prim.search (comparing, rules)) };
 
     fn partial_cmp(&self, other: &Name<'a>) -> Option<Ordering> {
         Some(self.cmp(other))

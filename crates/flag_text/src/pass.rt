@@ -37,7 +37,8 @@ fn pair_cause(vocabulary: Vocabulary, piece: &Piece<'_>) -> Option<PairCause>
 
 /// The first piece that isn't a name and a boolean word of the vocabulary with a `=` between them.
 pub fn first_pair_fault(vocabulary: Vocabulary, pieces: &[Piece<'_>]) -> Option<PairFault>
-    ensures some { IfSome result (λ f. StopsAt (HasBoolean vocabulary) (λ p. LacksBoolean vocabulary p f.cause) pieces.now f.place) }
+    ensures some { IfSome result (λ f. StopsAt (HasBoolean vocabulary)
+        (λ p. LacksBoolean vocabulary p f.cause) pieces.now f.place) }
     ensures none { IfNone result (All (HasBoolean vocabulary) pieces.now) }
 {
     for piece in pieces {

@@ -21,7 +21,11 @@ impl<'a> Model for Piece<'a> {
 
     ghost Value = { FlagPiece };
 
-    ghost view = { λ p. record { place = p.place; name = p.name.now; value = option_map (λ v. v.now) p.value } };
+    ghost view = { λ p. record {
+      place = p.place;
+      name = p.name.now;
+      value = option_map (λ v. v.now) p.value;
+    } };
 }
 
 fn is_blank(byte: u8) -> bool
@@ -97,10 +101,7 @@ pub fn pieces(alloc: Global, text: &[u8]) -> Result<Vec<Piece<'_>>, Memory>
     for (index, part) in parts.iter().enumerate() {
         let part = trimmed(part);
         if !part.is_empty() {
-            match pieces.push(cut(index as u64 + 1, part)) {
-                Ok(()) => {}
-                Err(_) => return Err(Memory),
-            }
+            pieces.push(cut(index as u64 + 1, part))?;
         }
     }
     Ok(pieces)

@@ -1,17 +1,18 @@
 -- A feature gate text has one answer: one fault at most, and none where it is valid.
-use Rattle.std.proofs.Common.{◌≡◌, inl, inr, ℕ, true, List, Option, Some, None, IsSome, refl, sym, ◌∙◌, ap}
+use Rattle.std.proofs.Common.{◌≡◌, inl, inr, ℕ, true, List, refl, sym, ◌∙◌, ap}
 use Rattle.gate_spec.specs.declared.entry.GateEntry.{GateEntry}
 use Rattle.gate_spec.specs.declared.entry.SpecAt.{SpecAt}
 use Rattle.gate_spec.specs.declared.entry.SpecAt.TheVariants.{Found, Removed, Never, PreAlpha as ComesLater}
 use Rattle.gate_spec.specs.Gates.{RisesInDate, cutoff, IsSpecAt}
 use Rattle.gate_spec.proofs.GateLemmas.{spec_at_one}
-use Rattle.flag_text.specs.Pieces.{FlagPiece, pieces, last_pieces}
+use Rattle.flag_text.specs.Pieces.{FlagPiece, pieces}
 use Rattle.gate_flags.specs.Flags.{IsAssignment, IsAccepted, HasFault, IsRefused}
 use Rattle.gate_flags.specs.Laws.{HasOneFault, IsFaultlessWhereValid}
 use Rattle.gate_flags.specs.declared.fault.GateCause.{GateCause}
 use Rattle.gate_flags.specs.declared.fault.GateCause.TheVariants.{Missing, BadBool, Unknown, PreAlpha, Locked}
 use Rattle.gate_flags.specs.declared.fault.GateFault.TheVariants.{Memory, At}
-use Rattle.flag_text.proofs.PassLemmas.{first_refutes, one_at, one_pair_cause}
+use Rattle.flag_text.proofs.PassLemmas.{one_pair_cause}
+use Rattle.flag_text.proofs.TwoPassLemmas.{one_stop}
 use Rattle.flag_text.specs.declared.vocabulary.Vocabulary.TheVariants.{Go}
 use Rattle.flag_text.specs.declared.pass.PairCause.TheVariants.{NoValue, NoBoolean}
 use Rattle.gate_flags.proofs.PassLemmas.{fault_refutes, refusal_refutes, fault_refuses}
@@ -53,12 +54,8 @@ one_refusal entries e up p c d h k =
 pub one_fault : (entries : List GateEntry) (e : ℕ) (text : List ℕ) → RisesInDate entries → HasOneFault entries e text
 one_fault entries e text up Memory g some other h k = absurd (some refl)
 one_fault entries e text up (At m c) Memory some other h k = absurd (other refl)
-one_fault entries e text up (At m c) (At n d) some other (inl h) (inl k) =
-    one_at At IsAssignment HasFault (pieces text) m n c d fault_refutes one_cause h k
-one_fault entries e text up (At m c) (At n d) some other (inl h) (inr k) = absurd (first_refutes IsAssignment (λ p. HasFault p c) (pieces text) m (λ p. fault_refutes p c) h k.0)
-one_fault entries e text up (At m c) (At n d) some other (inr h) (inl k) = absurd (first_refutes IsAssignment (λ p. HasFault p d) (pieces text) n (λ p. fault_refutes p d) k h.0)
-one_fault entries e text up (At m c) (At n d) some other (inr h) (inr k) =
-    one_at At (IsAccepted (cutoff entries e)) (IsRefused entries e) (last_pieces (pieces text)) m n c d (λ p c. refusal_refutes entries e p c up) (one_refusal entries e up) h.1 k.1
+one_fault entries e text up (At m c) (At n d) some other h k =
+    one_stop At IsAssignment (IsAccepted (cutoff entries e)) HasFault (IsRefused entries e) (pieces text) m n c d fault_refutes (λ p c. refusal_refutes entries e p c up) one_cause (one_refusal entries e up) h k
 
 pub either : (entries : List GateEntry) (e : ℕ) (text : List ℕ) → RisesInDate entries → IsFaultlessWhereValid entries e text
 either entries e text up valid Memory h = refl

@@ -1,5 +1,5 @@
 -- Texts by tables that say the same, and by a history that is cut at a release.
-use Rattle.std.proofs.Common.{◌≡◌, ◌↔◌, ◌⊎◌, inl, inr, ℕ, ◌≤◌, true, arith, List, All, Contains, refl, sym, ◌∙◌, ap, subst}
+use Rattle.std.proofs.Common.{◌≡◌, ◌⊎◌, inl, inr, ℕ, ◌≤◌, true, arith, List, refl, sym, ◌∙◌, ap, subst}
 use Rattle.std.specs.Prelude.{nat_le}
 use Rattle.std.proofs.lemmas.List.Elements.{All-weaker}
 use Rattle.basis.proofs.FilterLemmas.{Any-from_filter}
@@ -10,7 +10,7 @@ use Rattle.gate_spec.specs.Laws.{IsKnownAlike}
 use Rattle.gate_spec.specs.Same.{AreSameGates}
 use Rattle.gate_spec.proofs.CutLemmas.{cutoff_within, known_within, gate_or_none, same_facts}
 use Rattle.flag_text.specs.Pieces.{FlagPiece, pieces, last_pieces}
-use Rattle.flag_text.proofs.PassLemmas.{first_with}
+use Rattle.flag_text.proofs.TwoPassLemmas.{stop_along, seen_faults}
 use Rattle.gate_flags.specs.Flags.{IsAssignment, IsAccepted, IsFeatureText, HasFault, IsRefused, IsTextFault}
 use Rattle.gate_flags.specs.Laws.{IsTakenAlike, IsSeenAs, HasFaultsOfCut, HasUnforeseenFaults, unforeseen, unforeseen_fault}
 use Rattle.gate_flags.specs.Values.{Gates, IsRow, AreGateValues}
@@ -119,30 +119,24 @@ module _ (entries cut : List GateEntry) (o e : ℕ) (is : cut ≡ cutoff entries
 
   fault_kept : (text : List ℕ) (f : GateFault) → IsTextFault entries e text f → (g : GateFault) × IsSeenAs f g × IsTextFault cut e text g
   fault_kept text Memory h = (Memory, inl refl, tt)
-  fault_kept text (At place cause) (inl h) = (At place cause, inl refl, inl h)
-  fault_kept text (At place cause) (inr h) =
-      let fine : (p : FlagPiece) → IsAccepted (cutoff entries e) p → IsAccepted (cutoff cut e) p = λ p. subst (λ t. IsAccepted t p) same in
-      elim (refusal_kept h.1.piece cause h.1.first.faulty) [
-        | inl kept ↦ (At place cause, inl refl, inr (h.0, first_with (IsAccepted (cutoff entries e)) (IsAccepted (cutoff cut e)) (λ p. IsRefused entries e p cause) (λ p. IsRefused cut e p cause) (last_pieces (pieces text)) place fine h.1 kept))
-        | inr other ↦ (
-          At place Unknown,
-          inr (ap (λ c. At place (unforeseen c)) (sym other.0)),
-          inr (h.0, first_with (IsAccepted (cutoff entries e)) (IsAccepted (cutoff cut e)) (λ p. IsRefused entries e p cause) (λ p. IsRefused cut e p Unknown) (last_pieces (pieces text)) place fine h.1 other.1),
-        )
+  fault_kept text (At place cause) h =
+      elim (
+      stop_along IsAssignment (IsAccepted (cutoff entries e)) (IsAccepted (cutoff cut e)) HasFault (IsRefused entries e) (IsRefused cut e) (pieces text) place cause PreAlpha Unknown
+      (λ p. subst (λ t. IsAccepted t p) same) (λ p. refusal_kept p cause) h
+      ) [
+        | inl kept ↦ (At place cause, inl refl, kept)
+        | inr other ↦ (At place Unknown, inr (ap (λ c. At place (unforeseen c)) (sym other.0)), other.1)
       ]
 
   fault_from : (text : List ℕ) (g : GateFault) → IsTextFault cut e text g → (f : GateFault) × IsSeenAs f g × IsTextFault entries e text f
   fault_from text Memory h = (Memory, inl refl, tt)
-  fault_from text (At place cause) (inl h) = (At place cause, inl refl, inl h)
-  fault_from text (At place cause) (inr h) =
-      let fine : (p : FlagPiece) → IsAccepted (cutoff cut e) p → IsAccepted (cutoff entries e) p = λ p. subst (λ t. IsAccepted t p) (sym same) in
-      elim (refusal_from h.1.piece cause h.1.first.faulty) [
-        | inl kept ↦ (At place cause, inl refl, inr (h.0, first_with (IsAccepted (cutoff cut e)) (IsAccepted (cutoff entries e)) (λ p. IsRefused cut e p cause) (λ p. IsRefused entries e p cause) (last_pieces (pieces text)) place fine h.1 kept))
-        | inr other ↦ (
-          At place PreAlpha,
-          inr (ap (At place) other.0),
-          inr (h.0, first_with (IsAccepted (cutoff cut e)) (IsAccepted (cutoff entries e)) (λ p. IsRefused cut e p cause) (λ p. IsRefused entries e p PreAlpha) (last_pieces (pieces text)) place fine h.1 other.1),
-        )
+  fault_from text (At place cause) h =
+      elim (
+      stop_along IsAssignment (IsAccepted (cutoff cut e)) (IsAccepted (cutoff entries e)) HasFault (IsRefused cut e) (IsRefused entries e) (pieces text) place cause Unknown PreAlpha
+      (λ p. subst (λ t. IsAccepted t p) (sym same)) (λ p. refusal_from p cause) h
+      ) [
+        | inl kept ↦ (At place cause, inl refl, kept)
+        | inr other ↦ (At place PreAlpha, inr (ap (At place) other.0), other.1)
       ]
 
   pub faults_of_cut : (text : List ℕ) → HasFaultsOfCut entries cut e text
@@ -165,12 +159,6 @@ module _ (entries cut : List GateEntry) (o : ℕ) (is : cut ≡ cutoff entries o
   foreseen text (At place PreAlpha) (inr h) = absurd (none_later h.1.piece h.1.first.faulty)
 
   pub unforeseen_faults : (text : List ℕ) → HasUnforeseenFaults entries cut o text
-  unforeseen_faults text g = (
-    λ h.
-        let whole_fault = (faults_of_cut entries cut o o is whole text).from g h in
-        (whole_fault.0, whole_fault.2, elim whole_fault.1 [ inl same ↦ sym (foreseen text g h) ∙ ap unforeseen_fault same | inr seen ↦ seen ]),
-    λ h.
-        let kept = (faults_of_cut entries cut o o is whole text).kept h.0 h.1 in
-        let same : kept.0 ≡ g = elim kept.1 [ inl same ↦ sym (foreseen text kept.0 kept.2) ∙ ap unforeseen_fault same ∙ sym h.2 | inr seen ↦ seen ∙ sym h.2 ] in
-        subst (IsTextFault cut o text) same kept.2,
-  )
+  unforeseen_faults text =
+      let faults = faults_of_cut entries cut o o is whole text in
+      seen_faults unforeseen_fault (IsTextFault entries o text) (IsTextFault cut o text) faults.kept faults.from (foreseen text)

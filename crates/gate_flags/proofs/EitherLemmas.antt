@@ -1,7 +1,6 @@
 -- A text is valid or has a fault.
-use Rattle.std.proofs.Common.{◌≡◌, ◌⊎◌, inl, inr, ℕ, Bool, true, false, List, All, Option, Some, None, refl, sym, ◌∙◌, ap}
+use Rattle.std.proofs.Common.{◌≡◌, ◌⊎◌, inl, inr, ℕ, Bool, true, false, List, Option, Some, None, refl, sym, ◌∙◌}
 use Rattle.std.specs.Prelude.{codes}
-use Rattle.std.specs.Option.{is_some}
 use Rattle.std.specs.Str.{bytes_eq}
 use Rattle.std.proofs.lemmas.Bool.{cases_Bool, false≢true}
 use Rattle.std.proofs.lemmas.Slice.Eq.{bytes_eq-Decides}
@@ -10,10 +9,11 @@ use Rattle.gate_spec.specs.declared.entry.SpecAt.{SpecAt}
 use Rattle.gate_spec.specs.declared.entry.SpecAt.TheVariants.{Found, Removed, Never, PreAlpha as ComesLater}
 use Rattle.gate_spec.specs.Gates.{RisesInDate, cutoff, IsSpecAt}
 use Rattle.gate_spec.proofs.ThereLemmas.{spec_there}
-use Rattle.flag_text.specs.Pieces.{FlagPiece, pieces, last_pieces}
+use Rattle.flag_text.specs.Pieces.{FlagPiece, pieces}
 use Rattle.flag_text.specs.Said.{said}
 use Rattle.flag_text.specs.declared.vocabulary.Vocabulary.TheVariants.{Go}
-use Rattle.flag_text.proofs.PassLemmas.{stops_or_none, pair_or_not}
+use Rattle.flag_text.proofs.PassLemmas.{pair_or_not}
+use Rattle.flag_text.proofs.TwoPassLemmas.{stop_or_none}
 use Rattle.flag_text.specs.Passes.{LacksBoolean}
 use Rattle.flag_text.specs.declared.pass.PairCause.{PairCause}
 use Rattle.flag_text.specs.declared.pass.PairCause.TheVariants.{NoValue, NoBoolean}
@@ -71,10 +71,7 @@ accepted_or_not entries e up p = elim (is_all_word p.name) [
 
 pub valid_or_faulty : (entries : List GateEntry) (e : ℕ) (text : List ℕ) → RisesInDate entries → IsValidOrFaulty entries e text
 valid_or_faulty entries e text up =
-    elim (stops_or_none IsAssignment HasFault (pieces text) fine_or_not) [
-      | inl all ↦ elim (stops_or_none (IsAccepted (cutoff entries e)) (IsRefused entries e) (last_pieces (pieces text)) (accepted_or_not entries e up)) [
-        | inl accepted ↦ inl (record { assignments = all; accepted = accepted })
-        | inr stop ↦ inr (At stop.0 stop.1, (λ same. cc), inr (all, stop.2))
-      ]
-      | inr stop ↦ inr (At stop.0 stop.1, (λ same. cc), inl stop.2)
+    elim (stop_or_none IsAssignment (IsAccepted (cutoff entries e)) HasFault (IsRefused entries e) (pieces text) fine_or_not (accepted_or_not entries e up)) [
+      | inl good ↦ inl (record { assignments = good.0; accepted = good.1 })
+      | inr stop ↦ inr (At stop.0 stop.1, (λ same. cc), stop.2)
     ]

@@ -1,12 +1,12 @@
 -- Faults of pieces.
-use Rattle.std.proofs.Common.{◌≡◌, inl, inr, ℕ, Bool, true, List, All, Option, Some, None, Result, Ok, Err, IfErr, refl, ◌∙◌, ap, subst}
-use Rattle.std.specs.Option.{is_some, option_and_then}
+use Rattle.std.proofs.Common.{◌≡◌, inl, inr, ℕ, true, List, All, Some, Result, Ok, Err, IfErr, refl, ◌∙◌, ap, subst}
 use Rattle.gate_spec.specs.declared.entry.GateEntry.{GateEntry}
 use Rattle.gate_spec.specs.declared.entry.SpecAt.TheVariants.{Found, Removed, Never, PreAlpha as ComesLater}
 use Rattle.gate_spec.specs.Gates.{RisesInDate, cutoff}
 use Rattle.gate_spec.proofs.GateLemmas.{spec_at_one}
 use Rattle.flag_text.specs.declared.vocabulary.Vocabulary.TheVariants.{Go}
-use Rattle.flag_text.proofs.PassLemmas.{first_refutes, pair_refutes}
+use Rattle.flag_text.proofs.PassLemmas.{pair_refutes}
+use Rattle.flag_text.proofs.TwoPassLemmas.{stop_refutes}
 use Rattle.flag_text.specs.declared.pass.PairCause.TheVariants.{NoValue, NoBoolean}
 use Rattle.flag_text.specs.Pieces.{FlagPiece, pieces, last_pieces}
 use Rattle.gate_flags.specs.Flags.{IsAssignment, IsAccepted, IsFeatureText, HasFault, IsRefused, IsSecondPassFault, IsTextFault}
@@ -44,9 +44,8 @@ refusal_refutes entries e p (Locked d) up h (inr s) =
 -- a text with a fault isn't valid in the tables of the release
 pub fault_refuses : (entries : List GateEntry) (e : ℕ) (text : List ℕ) (fault : GateFault) → RisesInDate entries → IsTextFault entries e text fault → (fault ≡ Memory → ⊥) → IsFeatureText (cutoff entries e) text → ⊥
 fault_refuses entries e text Memory up h some valid = some refl
-fault_refuses entries e text (At place cause) up (inl h) some valid = first_refutes IsAssignment (λ p. HasFault p cause) (pieces text) place (λ p. fault_refutes p cause) h valid.assignments
-fault_refuses entries e text (At place cause) up (inr h) some valid =
-    first_refutes (IsAccepted (cutoff entries e)) (λ p. IsRefused entries e p cause) (last_pieces (pieces text)) place (λ p. refusal_refutes entries e p cause up) h.1 valid.accepted
+fault_refuses entries e text (At place cause) up h some valid =
+    stop_refutes IsAssignment (IsAccepted (cutoff entries e)) HasFault (IsRefused entries e) (pieces text) place cause fault_refutes (λ p c. refusal_refutes entries e p c up) h valid.assignments valid.accepted
 
 pub refusal_is : (entries : List GateEntry) (e : ℕ) (text : List ℕ) (last : List FlagPiece) (fault : GateFault) → All IsAssignment (pieces text) → last ≡ last_pieces (pieces text) → IsSecondPassFault entries e last fault → IsTextFault entries e text fault
 refusal_is entries e text last Memory first same h = tt

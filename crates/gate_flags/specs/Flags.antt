@@ -1,5 +1,5 @@
 -- Which flag texts a release accepts (component-base's --feature-gates), and the first fault of the others.
-use Rattle.std.specs.Prelude.{◌≡◌, ◌≢◌, ◌⊎◌, ℕ, Bool, true, List, All, Some, None, IsSome, codes}
+use Rattle.std.specs.Prelude.{◌≡◌, ◌≢◌, ◌⊎◌, ℕ, Bool, true, List, All, Some, codes}
 use Rattle.gate_spec.specs.declared.entry.GateEntry.{GateEntry}
 use Rattle.gate_spec.specs.declared.entry.Stage.{Stage}
 use Rattle.gate_spec.specs.declared.entry.SpecAt.TheVariants.{Found, Removed, Never, PreAlpha as ComesLater}
@@ -25,7 +25,8 @@ IsAllWord name = (name ≡ codes "AllAlpha") ⊎ (name ≡ codes "AllBeta")
 -- the tables know the gate, and it isn't locked or is given its default
 abbrev pub IsSettable : List GateEntry → FlagPiece → Type 0
 IsSettable tables p =
-    (stage : Stage) × (default : Bool) × (locked : Bool) × IsFoundIn tables p.name stage default locked ×
+    (stage : Stage) × (default : Bool) × (locked : Bool) ×
+    IsFoundIn tables p.name stage default locked ×
     (locked ≡ true → said Go p ≡ Some default)
 
 abbrev pub IsAccepted : List GateEntry → FlagPiece → Type 0
@@ -68,7 +69,8 @@ IsSecondPassFault entries e last Memory = ⊥
 abbrev pub IsTextFault : List GateEntry → ℕ → List ℕ → GateFault → Type 0
 IsTextFault entries e text (At place cause) =
     IsFirstPassFault (pieces text) (At place cause) ⊎
-    (All IsAssignment (pieces text) × IsSecondPassFault entries e (last_pieces (pieces text)) (At place cause))
+    (All IsAssignment (pieces text)
+    × IsSecondPassFault entries e (last_pieces (pieces text)) (At place cause))
 IsTextFault entries e text Memory = Unit {0}
 
 -- the name of a cause, as it is printed

@@ -13,12 +13,14 @@ use Rattle.gate_flags.specs.declared.fault.GateFault.TheVariants.{Memory, At}
 -- both tables accept the text or neither does, and they give it the same values
 pub record IsTakenAlike (tables others : List GateEntry) (text : List ℕ) : Type 0 where
   pub accepted : IsFeatureText tables text ↔ IsFeatureText others text
-  pub values : (gates : Gates) → AreGateValues tables (pieces text) gates ↔ AreGateValues others (pieces text) gates
+  pub values : (gates : Gates) →
+      AreGateValues tables (pieces text) gates ↔ AreGateValues others (pieces text) gates
 
 -- two sets of values of the text are one
 abbrev pub HasOneSetOfValues : List GateEntry → List ℕ → Type 0
 HasOneSetOfValues tables text =
-    (a b : Gates) → AreGateValues tables (pieces text) a → AreGateValues tables (pieces text) b → a ≡ b
+    (a b : Gates) →
+    AreGateValues tables (pieces text) a → AreGateValues tables (pieces text) b → a ≡ b
 
 -- two faults of the text, neither of them want of memory, are one, in place and cause
 abbrev pub HasOneFault : List GateEntry → ℕ → List ℕ → Type 0
@@ -29,12 +31,14 @@ HasOneFault entries e text =
 -- a valid text has no fault, but for want of memory
 abbrev pub IsFaultlessWhereValid : List GateEntry → ℕ → List ℕ → Type 0
 IsFaultlessWhereValid entries e text =
-    IsFeatureText (cutoff entries e) text → (f : GateFault) → IsTextFault entries e text f → f ≡ Memory
+    IsFeatureText (cutoff entries e) text →
+    (f : GateFault) → IsTextFault entries e text f → f ≡ Memory
 
 -- a text is valid or has a fault that isn't want of memory
 abbrev pub IsValidOrFaulty : List GateEntry → ℕ → List ℕ → Type 0
 IsValidOrFaulty entries e text =
-    IsFeatureText (cutoff entries e) text ⊎ ((f : GateFault) × (f ≢ Memory) × IsTextFault entries e text f)
+    IsFeatureText (cutoff entries e) text
+    ⊎ ((f : GateFault) × (f ≢ Memory) × IsTextFault entries e text f)
 
 -- a gate that comes only later, seen by a history that doesn't name it
 abbrev pub unforeseen : GateCause → GateCause

@@ -21,7 +21,8 @@ abbrev pub spec_in : BTreeMap (List ℕ) Known → List ℕ → SpecAt
 spec_in known name = option_map_or (λ k. k.spec) (get (slice_cmp nat_cmp) known name) Never
 
 -- the map has what the release knows of each gate
-pub record KnowsGates (entries : List GateEntry) (e : ℕ) (known : BTreeMap (List ℕ) Known) : Type 0 where
+pub record KnowsGates (entries : List GateEntry) (e : ℕ)
+    (known : BTreeMap (List ℕ) Known) : Type 0 where
   pub order : IsOrdered (slice_cmp nat_cmp) known
   pub names : (name : List ℕ) → IfSome (get (slice_cmp nat_cmp) known name) (λ k. k.name.now ≡ name)
   pub specs : (name : List ℕ) → IsSpecAt entries name e (spec_in known name)
@@ -33,7 +34,8 @@ all_in booleans Ga = None
 all_in booleans Deprecated = None
 
 abbrev pub value_in : BTreeMap (List ℕ) (Option Bool) → List ℕ → Stage → Bool → Bool
-value_in booleans name stage default = unwrap_or (said_in booleans name) (unwrap_or (all_in booleans stage) default)
+value_in booleans name stage default =
+    unwrap_or (said_in booleans name) (unwrap_or (all_in booleans stage) default)
 
 -- the row of a gate, where the release knows it
 abbrev pub row_of : BTreeMap (List ℕ) (Option Bool) → List ℕ → SpecAt → Option GateRow

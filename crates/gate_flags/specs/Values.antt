@@ -22,7 +22,8 @@ all_given ps Deprecated = None
 
 -- the value of a gate: what is given for it, else what is given for its stage, else its default
 abbrev pub gate_value : List FlagPiece → List ℕ → Stage → Bool → Bool
-gate_value ps name stage default = unwrap_or (last_said Go ps name) (unwrap_or (all_given ps stage) default)
+gate_value ps name stage default =
+    unwrap_or (last_said Go ps name) (unwrap_or (all_given ps stage) default)
 
 -- the row of a gate that the tables know
 pub record IsRow (tables : List GateEntry) (ps : List FlagPiece) (row : GateRow) : Type 0 where
@@ -42,10 +43,12 @@ pub record AreInOrder (gates : Gates) : Type 0 where
       Contains gates.removed gate → row.name ≢ gate.name
 
 -- each gate that the tables know has its row, and each removed gate its value
-pub record AreGateValues (tables : List GateEntry) (ps : List FlagPiece) (gates : Gates) : Type 0 where
+pub record AreGateValues (tables : List GateEntry) (ps : List FlagPiece)
+    (gates : Gates) : Type 0 where
   pub order : AreInOrder gates
   pub rows : (row : GateRow) → Contains gates.rows row ↔ IsRow tables ps row
-  pub removed : (gate : RemovedGate) → Contains gates.removed gate ↔ IsRemovedIn tables gate.name gate.value
+  pub removed : (gate : RemovedGate) →
+      Contains gates.removed gate ↔ IsRemovedIn tables gate.name gate.value
 
 -- the gate has this value
 abbrev pub HasValue : Gates → List ℕ → Bool → Type 0

@@ -54,7 +54,8 @@ pub fn gate_values(
 
     // Only want of memory refuses a valid text.
     ensures fault { IfErr result (IsTextFault entries.now e text.now) }
-    ensures refused { IfErr result (λ fault. fault ≢ GateFault.Memory → ¬ IsFeatureText (cutoff entries.now e) text.now) }
+    ensures refused { IfErr result
+        (λ fault. fault ≢ GateFault.Memory → ¬ IsFeatureText (cutoff entries.now e) text.now) }
 {
     read_values(alloc, entries, e, text)
 }

@@ -44,10 +44,7 @@ pub fn known_gates<'a>(
             name: &entry.name,
             spec,
         };
-        match known.insert(Name { bytes }, gate) {
-            Ok(_) => {}
-            Err(_) => return Err(Memory),
-        }
+        known.insert(Name { bytes }, gate)?;
     }
     Ok(known)
 }

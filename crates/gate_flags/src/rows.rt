@@ -81,15 +81,10 @@ pub fn rows<'a>(
 {
     let mut rows = Vec::new(alloc);
     for gate in known.values() {
-        let row = match row(alloc, booleans, gate) {
-            Ok(Some(row)) => row,
-            Ok(None) => continue,
-            Err(fault) => return Err(fault),
+        let Some(row) = row(alloc, booleans, gate)? else {
+            continue;
         };
-        match rows.push(row) {
-            Ok(()) => {}
-            Err(_) => return Err(Memory),
-        }
+        rows.push(row)?;
     }
     Ok(rows)
 }
@@ -103,15 +98,10 @@ pub fn removed_gates(
 {
     let mut removed = Vec::new(alloc);
     for gate in known.values() {
-        let gate = match removed_gate(alloc, gate) {
-            Ok(Some(gate)) => gate,
-            Ok(None) => continue,
-            Err(fault) => return Err(fault),
+        let Some(gate) = removed_gate(alloc, gate)? else {
+            continue;
         };
-        match removed.push(gate) {
-            Ok(()) => {}
-            Err(_) => return Err(Memory),
-        }
+        removed.push(gate)?;
     }
     Ok(removed)
 }

@@ -40,7 +40,8 @@ impl Model for GateValues {
 
     ghost view = { λ v. record { rows = v.rows.items; removed = v.removed.items } };
 
-    ghost invariant = { λ v. AreInOrder (record { rows = v.rows.items; removed = v.removed.items }) };
+    ghost invariant = { λ v.
+        AreInOrder (record { rows = v.rows.items; removed = v.removed.items }) };
 }
 
 impl GateValues {
@@ -80,7 +81,8 @@ fn compared(name: &Text, bytes: &[u8]) -> Ordering
 // The value of the row with this name, in rows that rise by name.
 fn value_of_row(rows: &[GateRow], name: &[u8]) -> Option<bool>
     requires { IsStrictlySortedBy (slice_cmp nat_cmp) (map (λ r. r.name) rows.now) }
-    ensures { (v : Bool) → (result ≡ Some v) ↔ Any (λ r. (r.name ≡ name.now) × (r.value ≡ v)) rows.now }
+    ensures { (v : Bool) → (result ≡ Some v)
+        ↔ Any (λ r. (r.name ≡ name.now) × (r.value ≡ v)) rows.now }
 {
     match rows.binary_search_by(|row| compared(&row.name, name)) {
         Ok(at) => Some(rows[at].value),
@@ -91,7 +93,8 @@ fn value_of_row(rows: &[GateRow], name: &[u8]) -> Option<bool>
 // The value that is kept of the gate with this name, in gates that rise by name.
 fn value_of_removed(gates: &[RemovedGate], name: &[u8]) -> Option<bool>
     requires { IsStrictlySortedBy (slice_cmp nat_cmp) (map (λ r. r.name) gates.now) }
-    ensures { (v : Bool) → (result ≡ Some v) ↔ Any (λ r. (r.name ≡ name.now) × (r.value ≡ v)) gates.now }
+    ensures { (v : Bool) → (result ≡ Some v)
+        ↔ Any (λ r. (r.name ≡ name.now) × (r.value ≡ v)) gates.now }
 {
     match gates.binary_search_by(|gate| compared(&gate.name, name)) {
         Ok(at) => Some(gates[at].value),

@@ -23,7 +23,7 @@ loop-piece-preserved c =
     let zs = c.loop-piece.pieces.items in
     let i = c.loop-piece.invariant in
     let done = new_at c.args.words xs ys zs c.in-Some.piece c.piece.inside.name.now c.loop-piece.last.items c.push.new.self.items c.loop-piece.booleans c.insert.new.self c.said.result i.left c.in-Some.ensures.items (sym (ap (λ p. p.name) c.piece.view_is))
-    (sym c.contains_key.ensures ∙ c.if-contains_key.false) i.order i.booleans c.in-Ok-push.ensures.items c.said.ensures c.in-Ok.ensures.updates in
+    (sym c.contains_key.ensures ∙ c.if-contains_key.false) i.order i.booleans c.in_ok-push.ensures.items c.said.ensures c.in_ok-insert.ensures.updates in
     record {
       left = (popped xs ys zs c.in-Some.piece i.left c.in-Some.ensures.items).0;
       order = done.0;
