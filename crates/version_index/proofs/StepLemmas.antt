@@ -10,7 +10,7 @@ use Rattle.lifecycle.specs.Tables.{is_of, first_change}
 use Rattle.lifecycle.specs.declared.entry.ApiChange.{ApiChange}
 use Rattle.lifecycle.specs.declared.entry.ApiEntry.{ApiEntry}
 use Rattle.lifecycle.proofs.TableLemmas.{subject_is}
-use Rattle.version_index.specs.Events.{ChangeMap}
+use Rattle.version_index.specs.Events.{ChangeMap, change_in}
 
 -- one more element
 find-push : {X : Type 0} (p : X → Bool) (xs : List X) (x : X) → find p (xs ++ x ∷ []) ≡ cond (is_some (find p xs)) (find p xs) (cond (p x) (Some x) None)
@@ -40,12 +40,8 @@ is_some-map : {X Y : Type 0} (f : X → Y) (o : Option X) → is_some (option_ma
 is_some-map f None = refl
 is_some-map f (Some x) = refl
 
--- what the map has of a version
-abbrev held : ChangeMap → GroupVersionResource → Option ApiEntry
-held m name = option_map (λ x. x.now) (value_at m name.group name.version name.resource)
-
 abbrev Holds : (ApiChange → Bool) → List ApiEntry → ChangeMap → Type 0
-Holds test tables m = (name : GroupVersionResource) → held m name ≡ first_change test tables name
+Holds test tables m = (name : GroupVersionResource) → change_in m name ≡ first_change test tables name
 
 module _ (test : ApiChange → Bool) (tables : List ApiEntry) (x : ApiEntry) where
   abbrev passes : GroupVersionResource → ApiEntry → Bool
@@ -59,8 +55,8 @@ module _ (test : ApiChange → Bool) (tables : List ApiEntry) (x : ApiEntry) whe
   pub seen : (m : ChangeMap) (a b c : List ℕ) → a ≡ x.group → b ≡ x.version → c ≡ x.resource → is_some (value_at m a b c) ≡ true → Holds test tables m → Holds test (tables ++ x ∷ []) m
   seen m a b c p q r there h name = elim (cases_Bool (is_of name x)) [
     | inl of ↦
-        let own : is_some (held m (subject x)) ≡ true = is_some-map (λ (y : Bor ApiEntry). y.now) (value_at m x.group x.version x.resource) ∙ ap (λ (k : List ℕ). is_some (value_at m k x.version x.resource)) (sym p) ∙ ap (λ (k : List ℕ). is_some (value_at m a k x.resource)) (sym q) ∙ ap (λ (k : List ℕ). is_some (value_at m a b k)) (sym r) ∙ there in
-        let found : is_some (find (passes name) tables) ≡ true = ap is_some (sym (h name)) ∙ ap (λ n. is_some (held m n)) (sym (subject_is name x of)) ∙ own in
+        let own : is_some (change_in m (subject x)) ≡ true = is_some-map (λ (y : Bor ApiEntry). y.now) (value_at m x.group x.version x.resource) ∙ ap (λ (k : List ℕ). is_some (value_at m k x.version x.resource)) (sym p) ∙ ap (λ (k : List ℕ). is_some (value_at m a k x.resource)) (sym q) ∙ ap (λ (k : List ℕ). is_some (value_at m a b k)) (sym r) ∙ there in
+        let found : is_some (find (passes name) tables) ≡ true = ap is_some (sym (h name)) ∙ ap (λ n. is_some (change_in m n)) (sym (subject_is name x of)) ∙ own in
         h name ∙ sym (find-push_found (passes name) tables x found)
     | inr other ↦ h name ∙ sym (find-push_fails (passes name) tables x (ap (λ t. t && test x.change) other))
   ]
@@ -73,8 +69,8 @@ module _ (test : ApiChange → Bool) (tables : List ApiEntry) (x : ApiEntry) whe
       let now = puts name.group name.version name.resource in
       elim (cases_Bool (is_of name x)) [
         | inl of ↦
-            let own : is_some (held m (subject x)) ≡ false = is_some-map (λ (y : Bor ApiEntry). y.now) (value_at m x.group x.version x.resource) ∙ ap (λ (k : List ℕ). is_some (value_at m k x.version x.resource)) (sym p) ∙ ap (λ (k : List ℕ). is_some (value_at m a k x.resource)) (sym q) ∙ ap (λ (k : List ℕ). is_some (value_at m a b k)) (sym r) ∙ none in
-            let before : is_some (find (passes name) tables) ≡ false = ap is_some (sym (h name)) ∙ ap (λ n. is_some (held m n)) (sym (subject_is name x of)) ∙ own in
+            let own : is_some (change_in m (subject x)) ≡ false = is_some-map (λ (y : Bor ApiEntry). y.now) (value_at m x.group x.version x.resource) ∙ ap (λ (k : List ℕ). is_some (value_at m k x.version x.resource)) (sym p) ∙ ap (λ (k : List ℕ). is_some (value_at m a k x.resource)) (sym q) ∙ ap (λ (k : List ℕ). is_some (value_at m a b k)) (sym r) ∙ none in
+            let before : is_some (find (passes name) tables) ≡ false = ap is_some (sym (h name)) ∙ ap (λ n. is_some (change_in m n)) (sym (subject_is name x of)) ∙ own in
             let here : value_at n name.group name.version name.resource ≡ Some v = now ∙ cond-true (is_same_name a b c name.group name.version name.resource) (Some v) (value_at m name.group name.version name.resource) (same ∙ of) in
             ap (option_map (λ y. y.now)) here ∙ ap Some is ∙ sym (find-push_new (passes name) tables x before (rw (of, kind) refl))
         | inr other ↦

@@ -1,5 +1,5 @@
 -- The kinds of changes that are looked up, each by its test.
-use Rattle.std.specs.Prelude.{◌≡◌, ℕ, List, Bool, option_map}
+use Rattle.std.specs.Prelude.{◌≡◌, ℕ, List, Bool, Option, option_map}
 use Rattle.std.specs.Borrow.{Bor}
 use Rattle.std.specs.BTreeMap.{BTreeMap}
 use Rattle.basis.specs.NameMap.{value_at}
@@ -20,8 +20,11 @@ is_event Forgetting = is_forgetting
 abbrev pub ChangeMap : Type 0
 ChangeMap = BTreeMap (Bor (List ℕ) × Bor (List ℕ) × Bor (List ℕ)) (Bor ApiEntry)
 
+-- what the map has of a version
+abbrev pub change_in : ChangeMap → GroupVersionResource → Option ApiEntry
+change_in m name = option_map (λ x. x.now) (value_at m name.group name.version name.resource)
+
 -- the map has of each version the first such change in the tables
 abbrev pub HasFirstChanges : Event → List ApiEntry → ChangeMap → Type 0
 HasFirstChanges event tables m =
-    (name : GroupVersionResource) →
-    option_map (λ x. x.now) (value_at m name.group name.version name.resource) ≡ first_change (is_event event) tables name
+    (name : GroupVersionResource) → change_in m name ≡ first_change (is_event event) tables name

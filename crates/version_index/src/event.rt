@@ -1,11 +1,12 @@
 //! The first changes of each kind, by version.
-ghost use Rattle.std.specs.Prelude.{◌≡◌, IfOk, OnOk, List, ◌++◌, ◌∷◌, []};
+ghost use Rattle.std.specs.Prelude.{◌≡◌, IfOk, OnOk, List, ◌++◌, ◌∷◌, [], option_copied};
+ghost use Rattle.lifecycle.specs.Entry.{named};
 ghost use Rattle.lifecycle.specs.Tables.{cutoff};
 ghost use Rattle.lifecycle.specs.declared.entry.ApiEntry.{ApiEntry as TheEntry};
-ghost use Rattle.version_index.specs.Events.{is_event, HasFirstChanges};
+ghost use Rattle.version_index.specs.Events.{is_event, change_in, HasFirstChanges};
 
 use basis::{Memory, NameMap, put, value_of};
-use lifecycle::{ApiChange, ApiEntry};
+use lifecycle::{ApiChange, ApiEntry, ApiName};
 use minor_version::Minor;
 use std::alloc::Global;
 use std::collections::BTreeMap;
@@ -69,4 +70,11 @@ impl Event {
         }
         Ok(map)
     }
+}
+
+/// What the map has of the version.
+pub fn change_in<'a>(map: &NameMap<'a, &'a ApiEntry>, name: ApiName<'a>) -> Option<&'a ApiEntry>
+    ensures { option_copied result ≡ change_in map.now (named name.entry) }
+{
+    value_of(map, name.group, name.version, name.resource)
 }

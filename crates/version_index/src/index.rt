@@ -1,5 +1,5 @@
-use crate::event::Event;
-use basis::{Memory, NameMap, value_of};
+use crate::event::{Event, change_in};
+use basis::{Memory, NameMap};
 use lifecycle::{ApiEntry, ApiName, Warning};
 use minor_version::Minor;
 use std::alloc::Global;
@@ -57,23 +57,22 @@ impl<'a> VersionIndex<'a> {
     pub fn introduction(&self, name: ApiName<'a>) -> Option<&'a ApiEntry>
         ensures { option_copied result ≡ first_change is_introduction self.now (named name.entry) }
     {
-        value_of(&self.introductions, name.group, name.version, name.resource)
+        change_in(&self.introductions, name)
     }
 
     /// Whether the version is there: introduced and not removed.
     pub fn is_live(&self, name: ApiName<'a>) -> bool
         ensures { result ≡ live self.now (named name.entry) }
     {
-        value_of(&self.introductions, name.group, name.version, name.resource).is_some()
-            && value_of(&self.removals, name.group, name.version, name.resource).is_none()
+        change_in(&self.introductions, name).is_some() && change_in(&self.removals, name).is_none()
     }
 
     /// Whether stored objects in the version are read: introduced and not forgotten.
     pub fn is_decodable(&self, name: ApiName<'a>) -> bool
         ensures { result ≡ decodable self.now (named name.entry) }
     {
-        value_of(&self.introductions, name.group, name.version, name.resource).is_some()
-            && value_of(&self.forgettings, name.group, name.version, name.resource).is_none()
+        change_in(&self.introductions, name).is_some()
+            && change_in(&self.forgettings, name).is_none()
     }
 
     /// What a client is told that uses the version: its first deprecation, while it is live.
@@ -84,7 +83,7 @@ impl<'a> VersionIndex<'a> {
         if !self.is_live(name) {
             return None;
         }
-        match value_of(&self.deprecations, name.group, name.version, name.resource) {
+        match change_in(&self.deprecations, name) {
             Some(entry) => entry.warning(),
             None => None,
         }
