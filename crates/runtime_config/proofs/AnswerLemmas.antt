@@ -1,15 +1,15 @@
 -- A runtime configuration has one answer: one served set, one fault at most, and none where it is valid.
-use Rattle.std.proofs.Common.{◌≡◌, ℕ, List, [], ◌∷◌, All, Option, Some, None, IsSome, inl, inr, refl, sym, ◌∙◌, ap, subst}
+use Rattle.std.proofs.Common.{◌≡◌, ℕ, List, [], ◌∷◌, All, inl, refl, sym, ◌∙◌, ap, subst}
 use Rattle.std.proofs.lemmas.Bool.{false≢true}
 use Rattle.std.proofs.lemmas.List.Elements.{All-from_recursion}
-use Rattle.flag_text.specs.Passes.{StopsAt}
 use Rattle.flag_text.specs.Pieces.{FlagPiece, pieces, last_pieces}
-use Rattle.flag_text.proofs.PassLemmas.{first_refutes, one_at, one_pair_cause}
+use Rattle.flag_text.proofs.PassLemmas.{one_pair_cause}
+use Rattle.flag_text.proofs.TwoPassLemmas.{one_stop, stop_refutes}
 use Rattle.flag_text.specs.declared.vocabulary.Vocabulary.TheVariants.{Plain}
 use Rattle.flag_text.specs.declared.pass.PairCause.TheVariants.{NoValue, NoBoolean}
 use Rattle.lifecycle.specs.Tables.{cutoff}
 use Rattle.lifecycle.specs.declared.entry.ApiEntry.{ApiEntry}
-use Rattle.runtime_config.specs.Config.{IsPair, IsTakenKey, IsOnlyAllFalse, HasFault, IsRefused}
+use Rattle.runtime_config.specs.Config.{IsPair, IsTakenKey, IsOnlyAllFalse, HasFault, IsRefused, IsTextFault}
 use Rattle.runtime_config.specs.Keys.{is_api_key}
 use Rattle.runtime_config.specs.Laws.{HasOneServedSet, HasOneFault, IsFaultlessWhereValid}
 use Rattle.runtime_config.specs.Served.{by_name}
@@ -62,11 +62,8 @@ module _ (entries : List ApiEntry) (e : ℕ) (text : List ℕ) where
   abbrev Taken : FlagPiece → Type 0
   Taken p = IsTakenKey (cutoff entries e) p.name
 
-  no_first : (m : ℕ) (c : ConfigCause) → StopsAt IsPair (λ p. HasFault p c) (pieces text) m → All IsPair (pieces text) → ⊥
-  no_first m c h all = first_refutes IsPair (λ p. HasFault p c) (pieces text) m (λ p. fault_refutes p c) h all
-
-  no_second : (m : ℕ) (c : ConfigCause) → StopsAt Taken (λ p. IsRefused entries e p c) (last_pieces (pieces text)) m → All Taken (last_pieces (pieces text)) → ⊥
-  no_second m c h all = first_refutes Taken (λ p. IsRefused entries e p c) (last_pieces (pieces text)) m (λ p. refusal_refutes entries e p c) h all
+  no_stop : (m : ℕ) (c : ConfigCause) → IsTextFault entries e text (At m c) → All IsPair (pieces text) → All Taken (last_pieces (pieces text)) → ⊥
+  no_stop m c h fine taken = stop_refutes IsPair Taken HasFault (IsRefused entries e) (pieces text) m c fault_refutes (refusal_refutes entries e) h fine taken
 
   -- every release takes the key `api/all`
   only_taken : IsOnlyAllFalse (pieces text) → All Taken (last_pieces (pieces text))
@@ -77,14 +74,10 @@ module _ (entries : List ApiEntry) (e : ℕ) (text : List ℕ) where
   one_fault (At m c) Memory some other h k = absurd (other refl)
   one_fault OnlyAllFalse Memory some other h k = absurd (other refl)
   one_fault OnlyAllFalse OnlyAllFalse some other h k = refl
-  one_fault OnlyAllFalse (At n d) some other h (inl k) = absurd (no_first n d k h.pairs)
-  one_fault OnlyAllFalse (At n d) some other h (inr k) = absurd (no_second n d k.1 (only_taken h.only))
-  one_fault (At m c) OnlyAllFalse some other (inl h) k = absurd (no_first m c h k.pairs)
-  one_fault (At m c) OnlyAllFalse some other (inr h) k = absurd (no_second m c h.1 (only_taken k.only))
-  one_fault (At m c) (At n d) some other (inl h) (inl k) = one_at At IsPair HasFault (pieces text) m n c d fault_refutes one_cause h k
-  one_fault (At m c) (At n d) some other (inl h) (inr k) = absurd (no_first m c h k.0)
-  one_fault (At m c) (At n d) some other (inr h) (inl k) = absurd (no_first n d k h.0)
-  one_fault (At m c) (At n d) some other (inr h) (inr k) = one_at At Taken (IsRefused entries e) (last_pieces (pieces text)) m n c d (refusal_refutes entries e) (one_refusal entries e) h.1 k.1
+  one_fault OnlyAllFalse (At n d) some other h k = absurd (no_stop n d k h.pairs (only_taken h.only))
+  one_fault (At m c) OnlyAllFalse some other h k = absurd (no_stop m c h k.pairs (only_taken k.only))
+  one_fault (At m c) (At n d) some other h k =
+      one_stop At IsPair Taken HasFault (IsRefused entries e) (pieces text) m n c d fault_refutes (refusal_refutes entries e) one_cause (one_refusal entries e) h k
 
   pub either : IsFaultlessWhereValid entries e text
   either valid Memory h = refl

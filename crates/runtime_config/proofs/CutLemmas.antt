@@ -1,7 +1,6 @@
 -- Texts by tables that say the same, and by a history that is cut at a release.
-use Rattle.std.proofs.Common.{◌≡◌, ◌↔◌, ◌⊎◌, ◌&&◌, inl, inr, ℕ, ◌≤◌, Bool, true, false, arith, List, All, Contains, Option, Some, None, refl, sym, ◌∙◌, ap, subst}
+use Rattle.std.proofs.Common.{◌≡◌, ◌↔◌, ◌⊎◌, ◌&&◌, inl, inr, ℕ, ◌≤◌, true, false, arith, List, Contains, Option, Some, None, refl, sym, ◌∙◌, ap, subst}
 use Rattle.std.specs.Prelude.{nat_le}
-use Rattle.std.specs.List.{list_any}
 use Rattle.std.specs.Option.{option_map_or, option_and_then}
 use Rattle.std.proofs.lemmas.Bool.{cases_Bool, false≢true, and_parts, and_from, false_from_ne_true, leb-true, le-leb}
 use Rattle.std.proofs.lemmas.List.Elements.{All-weaker, All-contains}
@@ -9,17 +8,17 @@ use Rattle.std.proofs.lemmas.List.Folds.{Any-from_list_any, list_any-from_Any}
 use Rattle.basis.proofs.ElementLemmas.{Any-from}
 use Rattle.basis.proofs.FilterLemmas.{Contains-filter, Contains-from_filter, passes_from_filter}
 use Rattle.flag_text.specs.Pieces.{FlagPiece, pieces, last_pieces}
-use Rattle.flag_text.proofs.PassLemmas.{first_with}
+use Rattle.flag_text.proofs.TwoPassLemmas.{stop_along, seen_faults}
 use Rattle.lifecycle.specs.Entry.{GroupVersionResource, subject, IsIntroduction, IsIntroduced}
-use Rattle.lifecycle.specs.Same.{introduction_of, introduced_as, AreSameVersions}
+use Rattle.lifecycle.specs.Same.{introduction_of, AreSameVersions}
 use Rattle.lifecycle.specs.Tables.{cutoff, is_introduction, first_change, live}
 use Rattle.lifecycle.specs.declared.entry.ApiEntry.{ApiEntry}
 use Rattle.lifecycle.specs.declared.entry.ApiChange.{ApiChange}
 use Rattle.lifecycle.specs.declared.entry.ApiChange.TheVariants.{Introduced, Deprecated, Removed, Forgotten}
 use Rattle.lifecycle.proofs.CutLemmas.{cut_tables}
 use Rattle.lifecycle.proofs.SameLemmas.{live_is_spoken_of, same_versions_back}
-use Rattle.runtime_config.specs.Config.{IsTakenKey, IsRuntimeText, IsServed, AreServed, IsUnknownKey, IsRemovedKey, IsLaterKey, IsRefused, IsTextFault, names_some, names_introduced, names_live, enables, enabled_by_default}
-use Rattle.runtime_config.specs.Keys.{is_api_key, names}
+use Rattle.runtime_config.specs.Config.{IsPair, IsTakenKey, IsRuntimeText, IsServed, AreServed, HasFault, IsRemovedKey, IsRefused, IsTextFault, names_some, names_introduced, names_live, enables, enabled_by_default}
+use Rattle.runtime_config.specs.Keys.{names}
 use Rattle.runtime_config.specs.Laws.{IsTakenAlike, IsSeenAs, HasFaultsOfCut, AreIntroduced, HasUnforeseenFaults, unforeseen, unforeseen_fault}
 use Rattle.runtime_config.specs.declared.fault.ConfigCause.{ConfigCause}
 use Rattle.runtime_config.specs.declared.fault.ConfigCause.TheVariants.{BadPair, BadBool, UnknownApi, AfterEmulated, RemovedApi}
@@ -150,31 +149,25 @@ module _ (entries cut : List ApiEntry) (o e : ℕ) (is : cut ≡ cutoff entries 
   fault_kept : (text : List ℕ) (f : ConfigFault) → IsTextFault entries e text f → (g : ConfigFault) × IsSeenAs f g × IsTextFault cut e text g
   fault_kept text Memory h = (Memory, inl refl, tt)
   fault_kept text OnlyAllFalse h = (OnlyAllFalse, inl refl, h)
-  fault_kept text (At place cause) (inl h) = (At place cause, inl refl, inl h)
-  fault_kept text (At place cause) (inr h) =
-      let fine : (p : FlagPiece) → Taken (cutoff entries e) p → Taken (cutoff cut e) p = λ p. subst (λ t. Taken t p) same in
-      elim (refusal_kept h.1.piece cause h.1.first.faulty) [
-        | inl kept ↦ (At place cause, inl refl, inr (h.0, first_with (Taken (cutoff entries e)) (Taken (cutoff cut e)) (λ p. IsRefused entries e p cause) (λ p. IsRefused cut e p cause) (last_pieces (pieces text)) place fine h.1 kept))
-        | inr other ↦ (
-          At place UnknownApi,
-          inr (ap (λ c. At place (unforeseen c)) (sym other.0)),
-          inr (h.0, first_with (Taken (cutoff entries e)) (Taken (cutoff cut e)) (λ p. IsRefused entries e p cause) (λ p. IsRefused cut e p UnknownApi) (last_pieces (pieces text)) place fine h.1 other.1),
-        )
+  fault_kept text (At place cause) h =
+      elim (
+      stop_along IsPair (Taken (cutoff entries e)) (Taken (cutoff cut e)) HasFault (IsRefused entries e) (IsRefused cut e) (pieces text) place cause AfterEmulated UnknownApi
+      (λ p. subst (λ t. Taken t p) same) (λ p. refusal_kept p cause) h
+      ) [
+        | inl kept ↦ (At place cause, inl refl, kept)
+        | inr other ↦ (At place UnknownApi, inr (ap (λ c. At place (unforeseen c)) (sym other.0)), other.1)
       ]
 
   fault_from : (text : List ℕ) (g : ConfigFault) → IsTextFault cut e text g → (f : ConfigFault) × IsSeenAs f g × IsTextFault entries e text f
   fault_from text Memory h = (Memory, inl refl, tt)
   fault_from text OnlyAllFalse h = (OnlyAllFalse, inl refl, h)
-  fault_from text (At place cause) (inl h) = (At place cause, inl refl, inl h)
-  fault_from text (At place cause) (inr h) =
-      let fine : (p : FlagPiece) → Taken (cutoff cut e) p → Taken (cutoff entries e) p = λ p. subst (λ t. Taken t p) (sym same) in
-      elim (refusal_from h.1.piece cause h.1.first.faulty) [
-        | inl kept ↦ (At place cause, inl refl, inr (h.0, first_with (Taken (cutoff cut e)) (Taken (cutoff entries e)) (λ p. IsRefused cut e p cause) (λ p. IsRefused entries e p cause) (last_pieces (pieces text)) place fine h.1 kept))
-        | inr other ↦ (
-          At place AfterEmulated,
-          inr (ap (At place) other.0),
-          inr (h.0, first_with (Taken (cutoff cut e)) (Taken (cutoff entries e)) (λ p. IsRefused cut e p cause) (λ p. IsRefused entries e p AfterEmulated) (last_pieces (pieces text)) place fine h.1 other.1),
-        )
+  fault_from text (At place cause) h =
+      elim (
+      stop_along IsPair (Taken (cutoff cut e)) (Taken (cutoff entries e)) HasFault (IsRefused cut e) (IsRefused entries e) (pieces text) place cause UnknownApi AfterEmulated
+      (λ p. subst (λ t. Taken t p) (sym same)) (λ p. refusal_from p cause) h
+      ) [
+        | inl kept ↦ (At place cause, inl refl, kept)
+        | inr other ↦ (At place AfterEmulated, inr (ap (At place) other.0), other.1)
       ]
 
   pub faults_of_cut : (text : List ℕ) → HasFaultsOfCut entries cut e text
@@ -218,12 +211,6 @@ module _ (entries cut : List ApiEntry) (o : ℕ) (is : cut ≡ cutoff entries o)
       absurd (false≢true (sym later.none_introduced ∙ introduced_there h.1.piece.name later.something))
 
   pub unforeseen_faults : (text : List ℕ) → HasUnforeseenFaults entries cut o text
-  unforeseen_faults text g = (
-    λ h.
-        let whole_fault = (faults_of_cut entries cut o o is whole text).from g h in
-        (whole_fault.0, whole_fault.2, elim whole_fault.1 [ inl same ↦ sym (foreseen text g h) ∙ ap unforeseen_fault same | inr seen ↦ seen ]),
-    λ h.
-        let kept = (faults_of_cut entries cut o o is whole text).kept h.0 h.1 in
-        let same : kept.0 ≡ g = elim kept.1 [ inl same ↦ sym (foreseen text kept.0 kept.2) ∙ ap unforeseen_fault same ∙ sym h.2 | inr seen ↦ seen ∙ sym h.2 ] in
-        subst (IsTextFault cut o text) same kept.2,
-  )
+  unforeseen_faults text =
+      let faults = faults_of_cut entries cut o o is whole text in
+      seen_faults unforeseen_fault (IsTextFault entries o text) (IsTextFault cut o text) faults.kept faults.from (foreseen text)

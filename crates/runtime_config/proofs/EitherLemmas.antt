@@ -1,13 +1,13 @@
 -- A text is valid or has a fault.
-use Rattle.std.proofs.Common.{◌≡◌, ◌⊎◌, inl, inr, ℕ, Bool, true, false, List, [], ◌∷◌, All, Option, Some, None, refl, sym, ◌∙◌, ap}
-use Rattle.std.specs.Option.{is_some}
+use Rattle.std.proofs.Common.{◌≡◌, ◌⊎◌, inl, inr, ℕ, Bool, true, false, List, [], ◌∷◌, Option, Some, None, refl, sym, ◌∙◌, ap}
 use Rattle.std.specs.Str.{bytes_eq}
 use Rattle.std.proofs.lemmas.Bool.{cases_Bool, false≢true}
 use Rattle.std.proofs.lemmas.Slice.Eq.{bytes_eq-Decides}
 use Rattle.flag_text.specs.Pieces.{FlagPiece, pieces, last_pieces}
 use Rattle.flag_text.specs.Said.{said}
 use Rattle.flag_text.specs.declared.vocabulary.Vocabulary.TheVariants.{Plain}
-use Rattle.flag_text.proofs.PassLemmas.{stops_or_none, pair_or_not}
+use Rattle.flag_text.proofs.PassLemmas.{pair_or_not}
+use Rattle.flag_text.proofs.TwoPassLemmas.{stop_or_none}
 use Rattle.flag_text.specs.Passes.{LacksBoolean}
 use Rattle.flag_text.specs.declared.pass.PairCause.{PairCause}
 use Rattle.flag_text.specs.declared.pass.PairCause.TheVariants.{NoValue, NoBoolean}
@@ -67,13 +67,10 @@ only_one ps (p ∷ []) is = elim (cases_Bool (bytes_eq p.name all_key)) [
 
 pub valid_or_faulty : (entries : List ApiEntry) (e : ℕ) (text : List ℕ) → IsValidOrFaulty entries e text
 valid_or_faulty entries e text =
-    elim (stops_or_none IsPair HasFault (pieces text) fine_or_not) [
-      | inl all ↦ elim (stops_or_none (λ p. IsTakenKey (cutoff entries e) p.name) (IsRefused entries e) (last_pieces (pieces text)) (taken_or_not entries e)) [
-        | inl taken ↦ elim (only_one (pieces text) (last_pieces (pieces text)) refl) [
-          | inl only ↦ inr (OnlyAllFalse, (λ same. cc), record { pairs = all; only = only })
-          | inr more ↦ inl (record { pairs = all; taken = taken; more = more })
-        ]
-        | inr stop ↦ inr (At stop.0 stop.1, (λ same. cc), inr (all, stop.2))
+    elim (stop_or_none IsPair (λ p. IsTakenKey (cutoff entries e) p.name) HasFault (IsRefused entries e) (pieces text) fine_or_not (taken_or_not entries e)) [
+      | inl good ↦ elim (only_one (pieces text) (last_pieces (pieces text)) refl) [
+        | inl only ↦ inr (OnlyAllFalse, (λ same. cc), record { pairs = good.0; only = only })
+        | inr more ↦ inl (record { pairs = good.0; taken = good.1; more = more })
       ]
-      | inr stop ↦ inr (At stop.0 stop.1, (λ same. cc), inl stop.2)
+      | inr stop ↦ inr (At stop.0 stop.1, (λ same. cc), stop.2)
     ]

@@ -2,11 +2,11 @@
 use Rattle.std.proofs.Common.{◌≡◌, ◌&&◌, ◌||◌, ℕ, Bool, true, false, List, [], ◌∷◌, Option, Some, None, refl, sym, ◌∙◌, ap, subst, inl, inr, filter, All, Result, Ok, Err, IfErr}
 use Rattle.std.specs.Prelude.{nat_le, IfSome, IfNone}
 use Rattle.std.specs.List.{list_any}
-use Rattle.std.specs.Option.{is_some, option_and_then}
 use Rattle.std.proofs.lemmas.Bool.{cases_Bool, false≢true, and_parts, or_cases, or_left, or_right}
 use Rattle.flag_text.specs.Pieces.{FlagPiece, pieces, last_pieces}
 use Rattle.flag_text.specs.declared.vocabulary.Vocabulary.TheVariants.{Plain}
-use Rattle.flag_text.proofs.PassLemmas.{first_refutes, pair_refutes}
+use Rattle.flag_text.proofs.PassLemmas.{pair_refutes}
+use Rattle.flag_text.proofs.TwoPassLemmas.{stop_refutes}
 use Rattle.flag_text.specs.declared.pass.PairCause.TheVariants.{NoValue, NoBoolean}
 use Rattle.lifecycle.specs.Entry.{subject}
 use Rattle.lifecycle.specs.Tables.{cutoff, is_introduction, live}
@@ -136,9 +136,8 @@ refusal_refutes entries e p RemovedApi h (inr there) = both_ways there h.none_li
 pub fault_refuses : (entries : List ApiEntry) (e : ℕ) (text : List ℕ) (fault : ConfigFault) → IsTextFault entries e text fault → (fault ≡ Memory → ⊥) → IsRuntimeText (cutoff entries e) text → ⊥
 fault_refuses entries e text Memory h some valid = some refl
 fault_refuses entries e text OnlyAllFalse h some valid = valid.more h.only
-fault_refuses entries e text (At place cause) (inl h) some valid = first_refutes IsPair (λ p. HasFault p cause) (pieces text) place (λ p. fault_refutes p cause) h valid.pairs
-fault_refuses entries e text (At place cause) (inr h) some valid =
-    first_refutes (λ p. IsTakenKey (cutoff entries e) p.name) (λ p. IsRefused entries e p cause) (last_pieces (pieces text)) place (λ p. refusal_refutes entries e p cause) h.1 valid.taken
+fault_refuses entries e text (At place cause) h some valid =
+    stop_refutes IsPair (λ p. IsTakenKey (cutoff entries e) p.name) HasFault (IsRefused entries e) (pieces text) place cause fault_refutes (refusal_refutes entries e) h valid.pairs valid.taken
 
 pub refusal_is : (entries : List ApiEntry) (e : ℕ) (text : List ℕ) (last : List FlagPiece) (fault : ConfigFault) → All IsPair (pieces text) → last ≡ last_pieces (pieces text) → IsSecondPassFault entries e last fault → IsTextFault entries e text fault
 refusal_is entries e text last Memory first same h = tt

@@ -1,5 +1,5 @@
 -- Which runtime configurations a release accepts, why it refuses another, and which versions it serves.
-use Rattle.std.specs.Prelude.{ℕ, ◌≡◌, ◌↔◌, ◌⊎◌, ◌∷◌, [], ◌&&◌, List, Bool, true, false, All, Contains, IsSome, Option, Some, None, unwrap_or, codes}
+use Rattle.std.specs.Prelude.{ℕ, ◌≡◌, ◌↔◌, ◌⊎◌, ◌∷◌, [], ◌&&◌, List, Bool, true, false, All, Contains, Option, Some, None, unwrap_or, codes}
 use Rattle.std.specs.List.{list_any}
 use Rattle.std.specs.Option.{option_map_or}
 use Rattle.flag_text.specs.Pieces.{FlagPiece, pieces, last_pieces}
@@ -31,7 +31,8 @@ names_some key entries = list_any (λ x. names key (subject x)) entries
 
 -- the tables introduce a version that the key names
 abbrev pub names_introduced : List ℕ → List ApiEntry → Bool
-names_introduced key tables = list_any (λ x. names key (subject x) && is_introduction x.change) tables
+names_introduced key tables =
+    list_any (λ x. names key (subject x) && is_introduction x.change) tables
 
 -- the tables speak of a live version that the key names
 abbrev pub names_live : List ℕ → List ApiEntry → Bool
@@ -91,7 +92,8 @@ IsFirstPassFault ps Memory = ⊥
 -- the second pass: over the last piece of each key, by the history and the release
 abbrev pub IsSecondPassFault : List ApiEntry → ℕ → List FlagPiece → ConfigFault → Type 0
 IsSecondPassFault entries e last (At place cause) =
-    StopsAt (λ p. IsTakenKey (cutoff entries e) p.name) (λ p. IsRefused entries e p cause) last place
+    StopsAt (λ p. IsTakenKey (cutoff entries e) p.name)
+    (λ p. IsRefused entries e p cause) last place
 IsSecondPassFault entries e last OnlyAllFalse = ⊥
 IsSecondPassFault entries e last Memory = ⊥
 
@@ -104,7 +106,8 @@ pub record IsAllOff (text : List ℕ) : Type 0 where
 abbrev pub IsTextFault : List ApiEntry → ℕ → List ℕ → ConfigFault → Type 0
 IsTextFault entries e text (At place cause) =
     IsFirstPassFault (pieces text) (At place cause) ⊎
-    (All IsPair (pieces text) × IsSecondPassFault entries e (last_pieces (pieces text)) (At place cause))
+    (All IsPair (pieces text)
+    × IsSecondPassFault entries e (last_pieces (pieces text)) (At place cause))
 IsTextFault entries e text OnlyAllFalse = IsAllOff text
 IsTextFault entries e text Memory = Unit {0}
 
@@ -118,7 +121,8 @@ abbrev pub level_said : List FlagPiece → Option VersionWord → Option Bool
 level_said ps None = None
 level_said ps (Some w) = last_said Plain ps (level_key w.level)
 
--- the most specific given key decides: that of the resource, of the version, of its level, of all; else the introduction
+-- the most specific given key decides: that of the resource, of the version, of its level, of all; else the
+-- introduction
 abbrev pub switched : List FlagPiece → GroupVersionResource → Option VersionWord → Bool → Bool
 switched ps name w enabled =
     unwrap_or (last_said Plain ps (resource_key name))
@@ -131,17 +135,20 @@ enables _ = false
 
 -- the introduction of the version enables it
 abbrev pub enabled_by_default : List ApiEntry → GroupVersionResource → Bool
-enabled_by_default tables name = option_map_or (λ x. enables x.change) (first_change is_introduction tables name) false
+enabled_by_default tables name =
+    option_map_or (λ x. enables x.change) (first_change is_introduction tables name) false
 
 -- the version is live and switched on
-pub record IsServed (tables : List ApiEntry) (ps : List FlagPiece) (name : GroupVersionResource) : Type 0 where
+pub record IsServed (tables : List ApiEntry) (ps : List FlagPiece)
+    (name : GroupVersionResource) : Type 0 where
   pub live : live tables name ≡ true
   pub word : Option VersionWord
   pub has_word : HasWord name.version word
   pub on : switched ps name word (enabled_by_default tables name) ≡ true
 
 -- the list has exactly the served versions, in order of bytes
-pub record AreServed (tables : List ApiEntry) (ps : List FlagPiece) (served : List GroupVersionResource) : Type 0 where
+pub record AreServed (tables : List ApiEntry) (ps : List FlagPiece)
+    (served : List GroupVersionResource) : Type 0 where
   pub order : AreInOrder served
   pub exact : (name : GroupVersionResource) → Contains served name ↔ IsServed tables ps name
 

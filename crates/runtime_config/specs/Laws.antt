@@ -20,7 +20,8 @@ pub record IsTakenAlike (tables others : List ApiEntry) (text : List ℕ) : Type
 abbrev pub HasOneServedSet : List ApiEntry → ℕ → List ℕ → Type 0
 HasOneServedSet entries e text =
     (a b : List GroupVersionResource) →
-    AreServed (cutoff entries e) (pieces text) a → AreServed (cutoff entries e) (pieces text) b → a ≡ b
+    AreServed (cutoff entries e) (pieces text) a →
+    AreServed (cutoff entries e) (pieces text) b → a ≡ b
 
 -- two faults of the text, neither of them want of memory, are one, in place and cause
 abbrev pub HasOneFault : List ApiEntry → ℕ → List ℕ → Type 0
@@ -31,12 +32,14 @@ HasOneFault entries e text =
 -- a valid text has no fault, but for want of memory
 abbrev pub IsFaultlessWhereValid : List ApiEntry → ℕ → List ℕ → Type 0
 IsFaultlessWhereValid entries e text =
-    IsRuntimeText (cutoff entries e) text → (f : ConfigFault) → IsTextFault entries e text f → f ≡ Memory
+    IsRuntimeText (cutoff entries e) text →
+    (f : ConfigFault) → IsTextFault entries e text f → f ≡ Memory
 
 -- a text is valid or has a fault that isn't want of memory
 abbrev pub IsValidOrFaulty : List ApiEntry → ℕ → List ℕ → Type 0
 IsValidOrFaulty entries e text =
-    IsRuntimeText (cutoff entries e) text ⊎ ((f : ConfigFault) × (f ≢ Memory) × IsTextFault entries e text f)
+    IsRuntimeText (cutoff entries e) text
+    ⊎ ((f : ConfigFault) × (f ≢ Memory) × IsTextFault entries e text f)
 
 -- a key that names only later versions, seen by a history that doesn't name them
 abbrev pub unforeseen : ConfigCause → ConfigCause

@@ -26,16 +26,21 @@ merged (Some s) own = better s own
 abbrev pub own_standing : List ApiEntry → ℕ → ApiEntry → Standing
 own_standing tables e x =
     (if nat_le x.since e then
-    (if live tables (subject x) then Live else (if is_introduction x.change then Gone else Later)) else Later)
+    (if live tables (subject x) then Live else
+    (if is_introduction x.change then Gone else Later)) else
+    Later)
 
 -- the standing of this key is raised, and nothing else changes
-abbrev pub Raises : BTreeMap (List ℕ) Standing → BTreeMap (List ℕ) Standing → List ℕ → Standing → Type 0
+abbrev pub Raises :
+    BTreeMap (List ℕ) Standing → BTreeMap (List ℕ) Standing → List ℕ → Standing → Type 0
 Raises m n key own =
     (q : List ℕ) → get (slice_cmp nat_cmp) n q ≡
-    cond (bytes_eq q key) (Some (merged (get (slice_cmp nat_cmp) m q) own)) (get (slice_cmp nat_cmp) m q)
+    cond (bytes_eq q key) (Some (merged (get (slice_cmp nat_cmp) m q) own))
+    (get (slice_cmp nat_cmp) m q)
 
 -- the same for the two keys of the row
-abbrev pub TakesIn : BTreeMap (List ℕ) Standing → BTreeMap (List ℕ) Standing → Row → Standing → Type 0
+abbrev pub TakesIn :
+    BTreeMap (List ℕ) Standing → BTreeMap (List ℕ) Standing → Row → Standing → Type 0
 TakesIn m n row own =
     (q : List ℕ) → get (slice_cmp nat_cmp) n q ≡
     cond (bytes_eq q (string_bytes row.version) || bytes_eq q (string_bytes row.resource))

@@ -21,7 +21,8 @@ level_in m (Some w) = said_in m (level_key w.level)
 abbrev pub switched_in : Booleans → List ℕ → List ℕ → Option VersionWord → Bool → Bool
 switched_in m resource version w enabled =
     unwrap_or (said_in m resource)
-    (unwrap_or (said_in m version) (unwrap_or (level_in m w) (unwrap_or (said_in m all_key) enabled)))
+    (unwrap_or (said_in m version)
+    (unwrap_or (level_in m w) (unwrap_or (said_in m all_key) enabled)))
 
 -- the version with this text is switched so
 abbrev pub IsSwitched : Booleans → List ℕ → List ℕ → List ℕ → Bool → Bool → Type 0
@@ -29,14 +30,18 @@ IsSwitched m text resource version enabled on =
     (w : Option VersionWord) × HasWord text w × (on ≡ switched_in m resource version w enabled)
 
 -- the version is live, and switched on by the map
-pub record IsOnIn (tables : List ApiEntry) (m : Booleans) (name : GroupVersionResource) : Type 0 where
+pub record IsOnIn (tables : List ApiEntry) (m : Booleans)
+    (name : GroupVersionResource) : Type 0 where
   pub live : live tables name ≡ true
   pub word : Option VersionWord
   pub has_word : HasWord name.version word
-  pub on : switched_in m (resource_key name) (version_key name) word (enabled_by_default tables name) ≡ true
+  pub on :
+      switched_in m (resource_key name) (version_key name) word (enabled_by_default tables name)
+      ≡ true
 
 -- the names of the versions of these entries that are on, in order of bytes
-pub record AreNamesOn (tables : List ApiEntry) (m : Booleans) (entries : List ApiEntry) (names : List GroupVersionResource) : Type 0 where
+pub record AreNamesOn (tables : List ApiEntry) (m : Booleans) (entries : List ApiEntry)
+    (names : List GroupVersionResource) : Type 0 where
   pub order : AreInOrder names
   pub exact : (name : GroupVersionResource) → Contains names name ↔
       Any (λ x. (subject x ≡ name) × IsOnIn tables m name) entries

@@ -16,13 +16,15 @@ use Rattle.runtime_config.specs.declared.standing.Standing.TheVariants.{Later, G
 -- the standing that the three tests leave
 abbrev pub standing_of : Bool → Bool → Bool → Option Standing
 standing_of some introduced live =
-    (if live then Some Live else (if introduced then Some Gone else (if some then Some Later else None)))
+    (if live then Some Live else
+    (if introduced then Some Gone else (if some then Some Later else None)))
 
 -- the standing of what the key names among these entries, by the tables of the release
 abbrev pub standing : List ApiEntry → ℕ → List ApiEntry → List ℕ → Option Standing
 standing tables e entries key =
     standing_of (list_any (λ x. names key (subject x)) entries)
-    (list_any (λ x. nat_le x.since e && (names key (subject x) && is_introduction x.change)) entries)
+    (list_any (λ x. nat_le x.since e && (names key (subject x) && is_introduction x.change))
+    entries)
     (list_any (λ x. nat_le x.since e && (names key (subject x) && live tables (subject x))) entries)
 
 abbrev pub standing_cause : Standing → Option ConfigCause
@@ -36,5 +38,6 @@ cause_of None = Some UnknownApi
 cause_of (Some s) = standing_cause s
 
 -- the map has the standing of each key
-pub record HasStandings (tables : List ApiEntry) (e : ℕ) (entries : List ApiEntry) (m : BTreeMap (List ℕ) Standing) : Type 0 where
+pub record HasStandings (tables : List ApiEntry) (e : ℕ) (entries : List ApiEntry)
+    (m : BTreeMap (List ℕ) Standing) : Type 0 where
   pub at : (key : List ℕ) → get (slice_cmp nat_cmp) m key ≡ standing tables e entries key

@@ -61,7 +61,8 @@ pub fn enabled_at(
 
     // Only want of memory refuses a valid text.
     ensures fault { IfErr result (IsTextFault entries.now e text.now) }
-    ensures refused { IfErr result (λ fault. fault ≢ ConfigFault.Memory → ¬ IsRuntimeText (cutoff entries.now e) text.now) }
+    ensures refused { IfErr result
+        (λ fault. fault ≢ ConfigFault.Memory → ¬ IsRuntimeText (cutoff entries.now e) text.now) }
 {
     let rows = rows(alloc, entries)?;
     read_config(alloc, entries, &rows, e, text)

@@ -95,7 +95,9 @@ impl PartialOrd for ServedName {
 
     ghost partial_cmp = { as_partial_cmp by_name };
 
-    ghost laws = { partial_order_from_agreeing_total by_name (Prim.search (comparing, rules)) (Prim.search (comparing, rules)) (Prim.search (comparing, rules)) };
+    ghost laws = { partial_order_from_agreeing_total by_name
+        (Prim.search (comparing, rules)) (Prim.search (comparing, rules))
+        (Prim.search (comparing, rules)) };
 
     fn partial_cmp(&self, other: &ServedName) -> Option<Ordering> {
         Some(self.cmp(other))

@@ -78,21 +78,14 @@ pub fn rows<'a>(alloc: Global, entries: &'a [ApiEntry]) -> Result<Vec<Row<'a>>, 
 {
     let mut rows = Vec::new(alloc);
     for entry in entries {
-        let Ok(version) = version_key(alloc, entry) else {
-            return Err(Memory);
-        };
-        let Ok(resource) = resource_key(alloc, entry) else {
-            return Err(Memory);
-        };
+        let version = version_key(alloc, entry)?;
+        let resource = resource_key(alloc, entry)?;
         let row = Row {
             entry,
             version,
             resource,
         };
-        match rows.push(row) {
-            Ok(()) => {}
-            Err(_) => return Err(Memory),
-        }
+        rows.push(row)?;
     }
     Ok(rows)
 }

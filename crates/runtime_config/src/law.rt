@@ -13,20 +13,23 @@ pub fn texts_by_same_versions(tables: &[ApiEntry], others: &[ApiEntry], text: &[
     ensures { IsTakenAlike tables.now others.now text.now }
 {}
 
-/// The law of emulation for runtime configurations: where a history is cut at the release o, the same texts are accepted
-/// at each release e up to o, and leave the same versions served. Nothing is computed here; the law is the contract.
+/// The law of emulation for runtime configurations: where a history is cut at the release o, the same texts are
+/// accepted at each release e up to o, and leave the same versions served. Nothing is computed here; the law is the
+/// contract.
 pub fn emulation_of_config(entries: &[ApiEntry], cut: &[ApiEntry], o: Minor, text: &[u8])
     requires { cut.now ≡ cutoff entries.now o }
-    ensures taken { (e : ℕ) → e ≤ o → IsTakenAlike (cutoff entries.now e) (cutoff cut.now e) text.now }
+    ensures taken { (e : ℕ) → e ≤ o →
+        IsTakenAlike (cutoff entries.now e) (cutoff cut.now e) text.now }
 
     // A key that names only later versions may be one that names nothing, and at the cut is one.
     ensures faults { (e : ℕ) → e ≤ o → HasFaultsOfCut entries.now cut.now e text.now }
-    ensures at_cut { AreIntroduced entries.now → HasUnforeseenFaults entries.now cut.now o text.now }
+    ensures at_cut { AreIntroduced entries.now →
+        HasUnforeseenFaults entries.now cut.now o text.now }
 {}
 
-/// A text has one answer at the release e: it is valid, with one list of what it leaves served and no fault, or it isn't,
-/// and has one fault, in place and cause. Want of memory, which can meet any text, is left out. Nothing is computed here;
-/// the law is the contract.
+/// A text has one answer at the release e: it is valid, with one list of what it leaves served and no fault, or it
+/// isn't, and has one fault, in place and cause. Want of memory, which can meet any text, is left out. Nothing is
+/// computed here; the law is the contract.
 pub fn config_has_one_answer(entries: &[ApiEntry], e: Minor, text: &[u8])
     ensures one_set { HasOneServedSet entries.now e text.now }
     ensures one_fault { HasOneFault entries.now e text.now }

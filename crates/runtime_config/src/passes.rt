@@ -60,9 +60,11 @@ fn cause_of(found: Option<Standing>) -> Option<ConfigCause>
 
 // Why the release refuses the piece, by the standing of its key.
 fn refusal(piece: &Piece<'_>, found: Option<Standing>) -> Option<ConfigCause>
-    ensures some { (entries : List TheEntry) (e : ℕ) → found ≡ standing (cutoff entries e) e entries piece.now.name →
+    ensures some { (entries : List TheEntry) (e : ℕ) →
+        found ≡ standing (cutoff entries e) e entries piece.now.name →
         IfSome result (IsRefused entries e piece.now) }
-    ensures none { (entries : List TheEntry) (e : ℕ) → found ≡ standing (cutoff entries e) e entries piece.now.name →
+    ensures none { (entries : List TheEntry) (e : ℕ) →
+        found ≡ standing (cutoff entries e) e entries piece.now.name →
         IfNone result (IsTakenKey (cutoff entries e) piece.now.name) }
 {
     if is_api_key(piece.name) {
@@ -74,9 +76,11 @@ fn refusal(piece: &Piece<'_>, found: Option<Standing>) -> Option<ConfigCause>
 
 /// The first of the last pieces that the release refuses.
 pub fn first_refusal<'a>(known: &Standings<'a>, last: &[Piece<'a>]) -> Option<ConfigFault>
-    ensures some { (entries : List TheEntry) (e : ℕ) → HasStandings (cutoff entries e) e entries known.now →
+    ensures some { (entries : List TheEntry) (e : ℕ) →
+        HasStandings (cutoff entries e) e entries known.now →
         IfSome result (IsSecondPassFault entries e last.now) }
-    ensures none { (entries : List TheEntry) (e : ℕ) → HasStandings (cutoff entries e) e entries known.now →
+    ensures none { (entries : List TheEntry) (e : ℕ) →
+        HasStandings (cutoff entries e) e entries known.now →
         IfNone result (All (λ p. IsTakenKey (cutoff entries e) p.name) last.now) }
 {
     for piece in last {
@@ -98,7 +102,8 @@ fn is_all_off(piece: &Piece<'_>) -> bool
 
 /// Whether `api/all=false` is all that is left.
 pub fn is_only_all_false(last: &[Piece<'_>]) -> bool
-    ensures { IsTrue result ↔ ((p : FlagPiece) × (last.now ≡ p ∷ []) × (p.name ≡ all_key) × (said Plain p ≡ Some false)) }
+    ensures { IsTrue result ↔ ((p : FlagPiece) × (last.now ≡ p ∷ [])
+        × (p.name ≡ all_key) × (said Plain p ≡ Some false)) }
 {
     last.len() == 1 && is_all_off(&last[0])
 }

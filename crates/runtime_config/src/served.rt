@@ -102,15 +102,14 @@ fn name_set<'k, 'a>(
     rows: &'k [Row<'a>],
 ) -> Result<BTreeSet<ServedName>, Memory>
     requires { AllByRecursion HasItsKeys rows.now }
-    ensures { IfOk result (λ set. AreNamesOn index.now booleans.now (entries_of rows.now) set.keys) }
+    ensures { IfOk result
+        (λ set. AreNamesOn index.now booleans.now (entries_of rows.now) set.keys) }
 {
     let mut set = BTreeSet::new(alloc);
     for row in rows {
         if is_on(index, booleans, row) {
             let name = owned(alloc, row.entry)?;
-            let Ok(_) = set.insert(name) else {
-                return Err(Memory);
-            };
+            set.insert(name)?;
         }
     }
     Ok(set)
@@ -124,7 +123,8 @@ pub fn names_on<'k, 'a>(
     rows: &'k [Row<'a>],
 ) -> Result<Vec<ServedName>, Memory>
     requires { AllByRecursion HasItsKeys rows.now }
-    ensures { IfOk result (λ names. AreNamesOn index.now booleans.now (entries_of rows.now) names.items) }
+    ensures { IfOk result
+        (λ names. AreNamesOn index.now booleans.now (entries_of rows.now) names.items) }
 {
     let set = name_set(alloc, index, booleans, rows)?;
     let names = set.into_iter().collect(alloc)?;

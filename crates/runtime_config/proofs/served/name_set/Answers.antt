@@ -10,7 +10,7 @@ use Rattle.runtime_config.specs.Serving.{AreNamesOn}
 use Rattle.runtime_config.specs.declared.keys.Row.{Row}
 use Rattle.runtime_config.proofs.ServedLemmas.{names_more, names_same}
 use Rattle.runtime_config.proofs.served.name_set.Goals as goal
-use Rattle.runtime_config.proofs.served.name_set.Goals.{then-is_on+in_ok-name+in-Ok, else-is_on}
+use Rattle.runtime_config.proofs.served.name_set.Goals.{then-is_on+in_ok-name+in_ok-insert, else-is_on}
 
 pub loop-row-preserved : goal.loop-row-preserved
 loop-row-preserved c =
@@ -22,9 +22,9 @@ loop-row-preserved c =
     let grown : entries_of (take (k + 1) rows) ≡ entries_of (take k rows) ++ x ∷ [] = map_more (λ (r : Row). r.entry.now) rows k row c.loop-row-test.true ∙ ap (λ (r : Row). entries_of (take k rows) ++ r.entry.now ∷ []) (sym c.row-item.is) in
     subst (λ xs. AreNamesOn c.args.index.now c.args.booleans.now xs c.if-is_on.set.keys) (sym grown)
     (elim c.if-is_on.branch [
-      | then-is_on+in_ok-name+in-Ok w ↦
-          let keys : c.if-is_on.set.keys ≡ insert_key by_name old (subject x) = ap (λ s. s.keys) w.set-is ∙ w.in-Ok.ensures.keys ∙ ap (insert_key by_name old) w.in_ok-name.ensures in
-          let ordered : IsStrictlySortedBy by_name c.if-is_on.set.keys = subst (λ s. IsStrictlySortedBy by_name s.keys) (sym w.set-is) w.in-Ok.ensures.ordered in
+      | then-is_on+in_ok-name+in_ok-insert w ↦
+          let keys : c.if-is_on.set.keys ≡ insert_key by_name old (subject x) = ap (λ s. s.keys) w.set-is ∙ w.in_ok-insert.ensures.keys ∙ ap (insert_key by_name old) w.in_ok-name.ensures in
+          let ordered : IsStrictlySortedBy by_name c.if-is_on.set.keys = subst (λ s. IsStrictlySortedBy by_name s.keys) (sym w.set-is) w.in_ok-insert.ensures.ordered in
           subst (AreNamesOn c.args.index.now c.args.booleans.now (entries_of (take k rows) ++ x ∷ [])) (sym keys)
           (names_more c.args.index.now c.args.booleans.now (entries_of (take k rows)) old x (c.is_on.ensures.0 w.if-is_on.true) c.loop-row.invariant (subst (IsStrictlySortedBy by_name) keys ordered))
       | else-is_on w ↦
