@@ -1,15 +1,13 @@
 -- What passes a test passes a weaker one before it: so what is dated by a release survives a cut at a later one.
-use Rattle.std.proofs.Common.{◌≡◌, ◌≤◌, inl, inr, ℕ, Bool, true, false, Some, List, [], ◌∷◌, refl, sym, ◌∙◌, ap, subst, arith}
+use Rattle.std.proofs.Common.{◌≡◌, ◌≤◌, inl, inr, ℕ, Bool, true, Some, List, [], ◌∷◌, refl, sym, ◌∙◌, ap, subst, arith}
 use Rattle.std.specs.Prelude.{nat_le, filter}
-use Rattle.std.proofs.lemmas.Bool.{cases_Bool, cond-true, cond-false, both_ways}
+use Rattle.std.proofs.lemmas.Bool.{cases_Bool, both_ways}
 use Rattle.std.proofs.lemmas.Bool.Decides.{nat_tests}
 use Rattle.fields.specs.declared.field.Field.{Field}
 use Rattle.fields.specs.declared.field.Spell.{Spell}
-use Rattle.fields.specs.declared.table.FieldRow.{FieldRow}
 use Rattle.gate_flags.specs.Values.{Gates}
 use Rattle.gate_spec.specs.Gates.{cutoff as gates_by}
 use Rattle.gate_spec.specs.declared.entry.GateEntry.{GateEntry}
-use Rattle.lifecycle.specs.Entry.{GroupVersionResource}
 use Rattle.lifecycle.specs.Tables.{cutoff as apis_by}
 use Rattle.lifecycle.specs.declared.entry.ApiEntry.{ApiEntry}
 use Rattle.schemas.specs.Cutoff.{cutoff, fields_by, spells_by}

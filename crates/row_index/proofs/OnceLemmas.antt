@@ -1,6 +1,6 @@
 -- Entries of an accepted history are named by their texts.
 use Rattle.std.proofs.Common.{ℕ, ◌≡◌, ◌<◌, ◌≤◌, List, Some, length, sym, subst, ◌∙◌, arith, inl, inr, Contains}
-use Rattle.std.specs.Prelude.{slice_get, All, filter, Bool}
+use Rattle.std.specs.Prelude.{slice_get, All}
 use Rattle.std.proofs.lemmas.Bool.{cases_order}
 use Rattle.std.proofs.lemmas.List.{get_or-take, length-take-le}
 use Rattle.std.proofs.lemmas.Option.{get_or_from_slice_get}

@@ -26,8 +26,8 @@ abbrev pub source_at : Dated → ℕ → Gates → RowSource
 source_at h e gates =
     record { fields = fields_by h.fields e; spells = spells_by h.spells e; gates = gates }
 
--- the cut history knows at the release what the whole one knows: cut at the release it is the same history, with the same fields and
--- spellings, and each version has the same rows
+-- the cut history knows at the release what the whole one knows: cut at the release it is the same history, with the
+-- same fields and spellings, and each version has the same rows
 pub record KnowsSame (history cut : Dated) (e : ℕ) : Type 0 where
   pub again : cutoff cut e ≡ cutoff history e
   pub source : (gates : Gates) → source_at cut e gates ≡ source_at history e gates

@@ -26,7 +26,15 @@ spelling_in spells f = find (λ s. bytes_eq s.field f.id) spells
 -- the row of the field as it is spelled
 abbrev pub row_as : Bool → Field → Spell → FieldRow
 row_as on f s =
-    record { id = f.id; ty = f.ty; required = f.required; on = on; path = s.path; form = s.form; default = s.default }
+    record {
+      id = f.id;
+      ty = f.ty;
+      required = f.required;
+      on = on;
+      path = s.path;
+      form = s.form;
+      default = s.default;
+    }
 
 -- the row of the field, where one of the spellings is of its id
 abbrev pub row_in : Gates → List Spell → Field → Option FieldRow
@@ -46,5 +54,7 @@ RiseById fields = Rises (map (λ b. b.now.id) fields)
 -- the map has each of the fields at its id, and nothing else
 pub record HoldsById (fields : List Field) (m : BTreeMap (List ℕ) (Bor Field)) : Type 0 where
   pub order : IsOrdered (slice_cmp nat_cmp) m
-  pub named : (id : List ℕ) → IfSome (get (slice_cmp nat_cmp) m id) (λ b. (b.now.id ≡ id) × Contains fields b.now)
-  pub each : (f : Field) → Contains fields f → option_copied (get (slice_cmp nat_cmp) m f.id) ≡ Some f
+  pub named : (id : List ℕ) →
+      IfSome (get (slice_cmp nat_cmp) m id) (λ b. (b.now.id ≡ id) × Contains fields b.now)
+  pub each : (f : Field) → Contains fields f →
+      option_copied (get (slice_cmp nat_cmp) m f.id) ≡ Some f

@@ -7,8 +7,10 @@ use Rattle.schemas.specs.Pairs.{AreOfOnePair}
 
 -- two fields that give one resource one id are one entry (HR11)
 abbrev pub AreFieldsOnce : List Field → Type 0
-AreFieldsOnce fields = (f g : Field) → Contains fields f → Contains fields g → AreOneField f g → f ≡ g
+AreFieldsOnce fields =
+    (f g : Field) → Contains fields f → Contains fields g → AreOneField f g → f ≡ g
 
 -- two spellings of one field in one version are one entry (HR14)
 abbrev pub AreSpellsOnce : List Spell → Type 0
-AreSpellsOnce spells = (s t : Spell) → Contains spells s → Contains spells t → AreOfOnePair s t → s ≡ t
+AreSpellsOnce spells =
+    (s t : Spell) → Contains spells s → Contains spells t → AreOfOnePair s t → s ≡ t

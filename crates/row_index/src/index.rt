@@ -50,12 +50,8 @@ impl<'a> RowIndex<'a> {
         let history = a.history();
         let fields = history.fields.items();
         let spells = history.spells.items();
-        let Ok(fields_by_resource) = list_fields(alloc, fields, e) else {
-            return Err(Memory);
-        };
-        let Ok(spells_by_version) = list_spells(alloc, spells, e) else {
-            return Err(Memory);
-        };
+        let fields_by_resource = list_fields(alloc, fields, e)?;
+        let spells_by_version = list_spells(alloc, spells, e)?;
         Ok(RowIndex {
             fields,
             spells,

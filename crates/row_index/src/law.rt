@@ -18,7 +18,8 @@ pub fn version_has_one_table(
     spells: &[Spell],
     name: ApiName<'_>,
 )
-    ensures { HasOneTable (λ gate. HasValue gates.now gate true) fields.now spells.now (named name.entry) }
+    ensures { HasOneTable (λ gate. HasValue gates.now gate true)
+        fields.now spells.now (named name.entry) }
 {
     let _gates = gates;
     let _fields = fields;

@@ -23,10 +23,7 @@ pub fn by_id<'a>(
     let mut held = BTreeMap::new(alloc);
     for field in fields {
         let bytes = field.id.bytes();
-        match held.insert(Name { bytes }, *field) {
-            Ok(_) => {}
-            Err(_) => return Err(Memory),
-        }
+        held.insert(Name { bytes }, *field)?;
     }
     Ok(held)
 }
@@ -108,10 +105,7 @@ pub fn rows_in<'a>(
             Ok(None) => continue,
             Err(Memory) => return Err(Memory),
         };
-        match rows.push(alloc, row) {
-            Ok(()) => {}
-            Err(Memory) => return Err(Memory),
-        }
+        rows.push(alloc, row)?;
     }
     Ok(rows)
 }
