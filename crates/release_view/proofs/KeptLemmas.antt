@@ -1,5 +1,5 @@
 -- What the type of a view keeps, and that each of its versions is the one that is found.
-use Rattle.std.proofs.Common.{◌≡◌, ◌≢◌, ℕ, Bool, true, Option, Some, None, List, [], ◌∷◌, ◌++◌, ◌&&◌, Ordering, Less, Equal, Greater, Contains, refl, sym, ◌∙◌, ap}
+use Rattle.std.proofs.Common.{◌≡◌, ◌≢◌, ℕ, Bool, true, Some, List, [], ◌∷◌, ◌++◌, ◌&&◌, Ordering, Less, Equal, Greater, Contains, refl, sym, ◌∙◌, ap}
 use Rattle.std.specs.Prelude.{find, option_map, codes}
 use Rattle.std.specs.Cmp.Lexicographic.{slice_cmp}
 use Rattle.std.specs.Ordering.{nat_cmp, ordering_then, ordering_reverse}
@@ -11,14 +11,13 @@ use Rattle.std.proofs.lemmas.List.Elements.{All-contains, All-contains_itself, A
 use Rattle.std.proofs.lemmas.Slice.Eq.{bytes_eq-Decides}
 use Rattle.basis.proofs.NameLemmas.{same_bytes}
 use Rattle.basis.proofs.OrderLemmas.{one_tied}
-use Rattle.fields.specs.declared.table.VersionTable.{VersionTable}
-use Rattle.gate_flags.specs.Values.{Gates, AreInOrder}
+use Rattle.gate_flags.specs.Values.{AreInOrder}
 use Rattle.lifecycle.specs.Entry.{GroupVersionResource}
 use Rattle.lifecycle.specs.Names.{group_version}
 use Rattle.lifecycle.specs.Stability.{by_stability}
-use Rattle.lifecycle.proofs.WordLemmas.{word_text_injective, exact_words}
+use Rattle.lifecycle.proofs.WordLemmas.{word_text_injective}
 use Rattle.release_view.specs.Kept.{IsKept, IsSpelled}
-use Rattle.release_view.specs.Known.{Tables, name_of, by_place, IsKnown, AreKnown, AreInPlace}
+use Rattle.release_view.specs.Known.{Tables, name_of, by_place, IsKnown, AreKnown}
 use Rattle.release_view.specs.Laws.{FindsEach}
 use Rattle.release_view.specs.Order.{by_place_total, by_stability_total}
 use Rattle.release_view.specs.Spelling.{HaveLawfulTables, SpellAlike}

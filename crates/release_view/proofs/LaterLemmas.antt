@@ -23,7 +23,7 @@ use Rattle.schemas.proofs.RowLemmas.{kept_at}
 use Rattle.release_view.specs.Known.{name_of, table_name, tables_at}
 use Rattle.release_view.specs.Later.{AreOfOneHistory, ReadsLive}
 use Rattle.release_view.specs.Laws.{Tells}
-use Rattle.release_view.specs.Views.{Viewed, table_in, has_live, best_table_in}
+use Rattle.release_view.specs.Views.{Viewed, table_in, has_live}
 use Rattle.release_view.specs.declared.known.KnownVersion.{KnownVersion}
 use Rattle.release_view.proofs.LookupLemmas.{tells}
 

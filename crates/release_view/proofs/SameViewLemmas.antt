@@ -1,5 +1,5 @@
 -- Histories that have the same tables at a release have the same views of it.
-use Rattle.std.proofs.Common.{◌≡◌, ◌↔◌, ℕ, true, Option, Some, None, List, Any, Contains, refl, sym, ◌∙◌, ap, subst}
+use Rattle.std.proofs.Common.{◌≡◌, ℕ, Option, Some, None, List, refl, sym, ◌∙◌, ap}
 use Rattle.std.specs.Prelude.{option_map, option_and_then}
 use Rattle.gate_flags.specs.Values.{Gates}
 use Rattle.gate_flags.proofs.CutLemmas.{taken_alike as gates_alike}
@@ -15,9 +15,9 @@ use Rattle.lifecycle.specs.declared.entry.ApiChange.TheVariants.{Introduced, Dep
 use Rattle.runtime_config.proofs.CutLemmas.{taken_alike as versions_alike}
 use Rattle.schemas.specs.Dated.{Dated}
 use Rattle.release_view.specs.Gates.{AreGatesOf}
-use Rattle.release_view.specs.Known.{Naming, name_of, naming, naming_of, naming_in, tables_at, IsKnown, AreKnown}
+use Rattle.release_view.specs.Known.{Naming, name_of, naming, naming_of, tables_at, IsKnown, AreKnown}
 use Rattle.release_view.specs.Same.{HaveSameTables, HaveSameViews, SpeaksOf, TakeSameTexts}
-use Rattle.release_view.specs.Views.{Viewed, AreLive, IsViewable, IsViewOf, IsViewByTexts}
+use Rattle.release_view.specs.Views.{Viewed, IsViewable, IsViewOf, IsViewByTexts}
 use Rattle.release_view.specs.declared.known.KnownVersion.{KnownVersion}
 use Rattle.release_view.proofs.ViewLemmas.{one_view}
 

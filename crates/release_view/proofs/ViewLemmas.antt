@@ -1,7 +1,9 @@
 -- A release has one view.
-use Rattle.std.proofs.Common.{◌≡◌, ◌≤◌, ℕ, List, refl, sym, ◌∙◌, ap, subst, arith}
+use Rattle.std.proofs.Common.{◌≡◌, ◌≤◌, ℕ, List, sym, ◌∙◌, ap, subst, arith}
 use Rattle.std.specs.Prelude.{unwrap_or}
 use Rattle.basis.proofs.OrderLemmas.{one_in_order}
+use Rattle.flag_text.specs.Pieces.{pieces}
+use Rattle.gate_flags.proofs.CutLemmas.{values_one}
 use Rattle.gate_flags.specs.Values.{Gates}
 use Rattle.gate_spec.specs.Gates.{cutoff as gates_by}
 use Rattle.gate_spec.specs.declared.entry.GateEntry.{GateEntry}
@@ -9,6 +11,7 @@ use Rattle.lifecycle.specs.Entry.{GroupVersionResource}
 use Rattle.lifecycle.specs.Tables.{cutoff as apis_by}
 use Rattle.lifecycle.specs.declared.entry.ApiEntry.{ApiEntry}
 use Rattle.row_index.proofs.CutLemmas.{same_apis, same_gates, same_first, same_source}
+use Rattle.runtime_config.proofs.AnswerLemmas.{one_set}
 use Rattle.schemas.specs.Cutoff.{cutoff}
 use Rattle.schemas.specs.Dated.{Dated}
 use Rattle.schemas.specs.Rules.{first_of, last_of}
@@ -16,7 +19,7 @@ use Rattle.release_view.specs.Gates.{AreGatesOf}
 use Rattle.release_view.specs.Known.{Tables, tables_at, AreKnown, by_place}
 use Rattle.release_view.specs.Laws.{HasOneView}
 use Rattle.release_view.specs.Order.{by_place_total}
-use Rattle.release_view.specs.Views.{Viewed, AreLive, IsViewable, IsViewOf}
+use Rattle.release_view.specs.Views.{Viewed, AreLive, IsViewable, IsViewOf, IsViewByTexts}
 use Rattle.release_view.specs.declared.known.KnownVersion.{KnownVersion}
 
 same_versions : (tables : Tables) (on_names : List GroupVersionResource) (vs ws : List KnownVersion) → AreKnown tables on_names vs → AreKnown tables on_names ws → vs ≡ ws
@@ -28,6 +31,14 @@ one_view h e gates on_names v w a b =
     let all_gates : v.gates ≡ w.gates = a.of_gates ∙ sym b.of_gates in
     let versions : v.versions ≡ w.versions = same_versions (tables_at h e gates) on_names v.versions w.versions a.of_versions b.of_versions in
     λ i. record { minor = minors i; gates = all_gates i; versions = versions i }
+
+-- texts make one view of it
+pub one_by_texts : (h : Dated) (e : ℕ) (features config : List ℕ) (v w : Viewed) → IsViewByTexts h e features config v → IsViewByTexts h e features config w → v ≡ w
+one_by_texts h e features config v w a b =
+    let on = one_set h.apis e config a.on b.on a.served b.served in
+    let gates = values_one (gates_by h.gates e) (pieces features) v.gates w.gates a.valued b.valued in
+    let viewed = subst (λ g. IsViewOf h e g b.on v) gates (subst (λ n. IsViewOf h e v.gates n v) on a.viewed) in
+    one_view h e w.gates b.on v w viewed b.viewed
 
 -- histories that have the same tables at a release, of which both speak, have the same views of it
 module _ (h cut : Dated) (e : ℕ) (gates : Gates) (on_names : List GroupVersionResource) where

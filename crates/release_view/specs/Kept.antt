@@ -19,8 +19,8 @@ AreSpelled versions = All IsSpelled versions
 abbrev pub ServesLive : List KnownVersion → Type 0
 ServesLive versions = All (λ v. IsTrue v.served → IsTrue v.live) versions
 
--- the versions are in order, each with the word of its text, and what is served is live; their tables are lawful, and those of a resource
--- spell the same fields; the gates are in order of their names
+-- the versions are in order, each with the word of its text, and what is served is live; their tables are lawful, and
+-- those of a resource spell the same fields; the gates are in order of their names
 pub record IsKept (view : Viewed) : Type 0 where
   pub order : AreInPlace view.versions
   pub spelled : AreSpelled view.versions

@@ -41,7 +41,8 @@ naming_of _ = None
 
 -- the naming of a version, by its first introduction in the tables
 abbrev pub naming : List ApiEntry → GroupVersionResource → Option Naming
-naming tables name = option_and_then (λ x. naming_of x.change) (first_change is_introduction tables name)
+naming tables name =
+    option_and_then (λ x. naming_of x.change) (first_change is_introduction tables name)
 
 -- what versions are known by: changes of versions, and what rows are made of
 pub record Tables : Type 0 where
@@ -56,7 +57,8 @@ abbrev pub deprecation : Planned → Deprecation
 deprecation p = record { since = p.since; removal = p.removal; replacement = p.replacement }
 
 -- the version is read at the release, and this is what its tables and the served names say of it
-pub record IsKnown (tables : Tables) (on_names : List GroupVersionResource) (v : KnownVersion) : Type 0 where
+pub record IsKnown (tables : Tables) (on_names : List GroupVersionResource)
+    (v : KnownVersion) : Type 0 where
   pub decodes : decodable tables.apis (name_of v) ≡ true
   pub named_as : naming tables.apis (name_of v) ≡ Some (naming_in v)
   pub lawful : IsWord v.word
@@ -69,7 +71,8 @@ pub record IsKnown (tables : Tables) (on_names : List GroupVersionResource) (v :
 -- by group in order of bytes, then the most stable first, then by resource in order of bytes
 abbrev pub by_place : KnownVersion → KnownVersion → Ordering
 by_place =
-    then_cmp (then_cmp (on (λ v. v.table.group) (slice_cmp nat_cmp)) (on (λ v. v.word) by_stability))
+    then_cmp
+    (then_cmp (on (λ v. v.table.group) (slice_cmp nat_cmp)) (on (λ v. v.word) by_stability))
     (on (λ v. v.table.resource) (slice_cmp nat_cmp))
 
 abbrev pub AreInPlace : List KnownVersion → Type 0
@@ -80,8 +83,10 @@ abbrev pub Has : List KnownVersion → GroupVersionResource → Type 0
 Has versions name = Any (λ v. name_of v ≡ name) versions
 
 -- the versions that the tables have, each once, in order
-pub record AreKnown (tables : Tables) (on_names : List GroupVersionResource) (versions : List KnownVersion) : Type 0 where
+pub record AreKnown (tables : Tables) (on_names : List GroupVersionResource)
+    (versions : List KnownVersion) : Type 0 where
   pub order : AreInPlace versions
   pub exact : (v : KnownVersion) → Contains versions v ↔ IsKnown tables on_names v
-  pub each_decodable : (name : GroupVersionResource) → decodable tables.apis name ≡ true → Has versions name
+  pub each_decodable : (name : GroupVersionResource) →
+      decodable tables.apis name ≡ true → Has versions name
   pub each_live : (name : GroupVersionResource) → live tables.apis name ≡ true → Has versions name

@@ -20,15 +20,16 @@ pub record AreOfOneHistory (history : Dated) (back view : Viewed) : Type 0 where
   pub not_above : back.minor ≤ view.minor
   pub near : view.minor ≤ back.minor + 3
 
--- what is live in the earlier view is live, or at least read, in the later one: a kind stays live, a live version has a
--- table, and so has the most stable one. A version's table in the earlier view has the rows that it has in the later one
--- of those fields that are dated by the earlier release, but for which of them are on
+-- what is live in the earlier view is live, or at least read, in the later one: a kind stays live, a live version has
+-- a table, and so has the most stable one. A version's table in the earlier view has the rows that it has in the later
+-- one of those fields that are dated by the earlier release, but for which of them are on
 pub record ReadsLive (history : Dated) (back view : Viewed) : Type 0 where
   pub kinds : (group resource : List ℕ) →
       has_live back.versions group resource ≡ true → has_live view.versions group resource ≡ true
   pub versions : (v : KnownVersion) → Contains back.versions v → IsTrue v.live →
       IsSome (table_in view.versions (name_of v))
-  pub best : (group resource : List ℕ) (t : VersionTable) → best_table_in back.versions group resource ≡ Some t →
+  pub best : (group resource : List ℕ) (t : VersionTable) →
+      best_table_in back.versions group resource ≡ Some t →
       IsSome (table_in view.versions (table_name t))
   pub rows : (name : GroupVersionResource) (older newer : VersionTable) →
       table_in back.versions name ≡ Some older → table_in view.versions name ≡ Some newer →
@@ -36,4 +37,5 @@ pub record ReadsLive (history : Dated) (back view : Viewed) : Type 0 where
 
 -- of whichever history both are views, the later one reads what is live in the earlier one
 abbrev pub ReadsLiveOf : Viewed → Viewed → Type 0
-ReadsLiveOf back view = (history : Dated) → AreOfOneHistory history back view → ReadsLive history back view
+ReadsLiveOf back view =
+    (history : Dated) → AreOfOneHistory history back view → ReadsLive history back view

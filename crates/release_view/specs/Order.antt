@@ -16,7 +16,9 @@ by_stability_total =
 
 pub by_place_total : IsTotalOrder by_place
 by_place_total =
-    then_total (then_total (on_texts (λ (v : KnownVersion). v.table.group)) (on_total (λ (v : KnownVersion). v.word) by_stability_total))
+    then_total
+    (then_total (on_texts (λ (v : KnownVersion). v.table.group))
+    (on_total (λ (v : KnownVersion). v.word) by_stability_total))
     (on_texts (λ (v : KnownVersion). v.table.resource))
 
 pub same_place : IsEquivalence (eq_by_cmp by_place)

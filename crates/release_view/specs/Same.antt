@@ -18,7 +18,8 @@ use Rattle.release_view.specs.Views.{Viewed, IsViewable, IsViewOf, IsViewByTexts
 abbrev pub HaveSameRows : Dated → Dated → ℕ → Type 0
 HaveSameRows h k e =
     (gates : Gates) (name : GroupVersionResource) → decodable (cutoff h.apis e) name ≡ true →
-    (rows : List FieldRow) → AreRowsOf (source_at h e gates) name rows ↔ AreRowsOf (source_at k e gates) name rows
+    (rows : List FieldRow) →
+    AreRowsOf (source_at h e gates) name rows ↔ AreRowsOf (source_at k e gates) name rows
 
 -- at the release both have the same gates and the same versions, with the same rows
 pub record HaveSameTables (h k : Dated) (e : ℕ) : Type 0 where
@@ -31,8 +32,8 @@ pub record SpeaksOf (h : Dated) (e : ℕ) : Type 0 where
   pub from : first_of h ≤ e
   pub to : e ≤ last_of h
 
--- the release may be viewed by one with the gates and served versions with which it may be viewed by the other, and has the same view, so
--- that all that is looked up in it, and each page, is the same
+-- the release may be viewed by one with the gates and served versions with which it may be viewed by the other, and
+-- has the same view, so that all that is looked up in it, and each page, is the same
 pub record HaveSameViews (h k : Dated) (e : ℕ) : Type 0 where
   pub viewable : (gates : Gates) (on_names : List GroupVersionResource) →
       IsViewable h e gates on_names ↔ IsViewable k e gates on_names
@@ -43,7 +44,8 @@ pub record HaveSameViews (h k : Dated) (e : ℕ) : Type 0 where
 
 -- the same texts are taken by both, with the same values and served versions, and make the same view
 pub record TakeSameTexts (h k : Dated) (e : ℕ) : Type 0 where
-  pub gates : (text : List ℕ) → GatesAreTakenAlike (gate_cutoff h.gates e) (gate_cutoff k.gates e) text
+  pub gates : (text : List ℕ) →
+      GatesAreTakenAlike (gate_cutoff h.gates e) (gate_cutoff k.gates e) text
   pub versions : (text : List ℕ) → VersionsAreTakenAlike (cutoff h.apis e) (cutoff k.apis e) text
   pub views : (features config : List ℕ) (v : Viewed) →
       IsViewByTexts h e features config v ↔ IsViewByTexts k e features config v

@@ -31,23 +31,26 @@ pub record Viewed : Type 0 where
 abbrev pub AreLive : List ApiEntry → List GroupVersionResource → Type 0
 AreLive tables names = (name : GroupVersionResource) → Contains names name → live tables name ≡ true
 
--- the release may be viewed with these gates and served versions: the history speaks of it, the gates are those of its tables, and what is
--- served is live
-pub record IsViewable (history : Dated) (e : ℕ) (gates : Gates) (on_names : List GroupVersionResource) : Type 0 where
+-- the release may be viewed with these gates and served versions: the history speaks of it, the gates are those of its
+-- tables, and what is served is live
+pub record IsViewable (history : Dated) (e : ℕ) (gates : Gates)
+    (on_names : List GroupVersionResource) : Type 0 where
   pub from : first_of history ≤ e
   pub to : e ≤ last_of history
   pub valued : AreGatesOf (gate_cutoff history.gates e) gates
   pub lives : AreLive (cutoff history.apis e) on_names
 
 -- the view of the release by this history, these gates and these served versions
-pub record IsViewOf (history : Dated) (e : ℕ) (gates : Gates) (on_names : List GroupVersionResource) (view : Viewed) : Type 0 where
+pub record IsViewOf (history : Dated) (e : ℕ) (gates : Gates)
+    (on_names : List GroupVersionResource) (view : Viewed) : Type 0 where
   pub of_minor : view.minor ≡ e
   pub of_gates : view.gates ≡ gates
   pub of_versions : AreKnown (tables_at history e gates) on_names view.versions
   pub viewable : IsViewable history e gates on_names
 
 -- the view of the release by the history, with what these texts make of its gates and versions
-pub record IsViewByTexts (history : Dated) (e : ℕ) (features config : List ℕ) (view : Viewed) : Type 0 where
+pub record IsViewByTexts (history : Dated) (e : ℕ) (features config : List ℕ)
+    (view : Viewed) : Type 0 where
   pub on : List GroupVersionResource
   pub served : AreServed (cutoff history.apis e) (pieces config) on
   pub valued : AreGateValues (gate_cutoff history.gates e) (pieces features) view.gates
@@ -67,7 +70,9 @@ has_name name v =
 
 abbrev pub is_shown_as : GroupVersionResource → ServedVersion → Bool
 is_shown_as name s =
-    bytes_eq s.group name.group && bytes_eq s.version name.version && bytes_eq s.resource name.resource
+    bytes_eq s.group name.group
+    && bytes_eq s.version name.version
+    && bytes_eq s.resource name.resource
 
 abbrev pub version_in : List KnownVersion → GroupVersionResource → Option KnownVersion
 version_in versions name = find (has_name name) versions
@@ -76,7 +81,8 @@ abbrev pub table_in : List KnownVersion → GroupVersionResource → Option Vers
 table_in versions name = option_map (λ v. v.table) (version_in versions name)
 
 abbrev pub warning_in : List KnownVersion → GroupVersionResource → Option Deprecation
-warning_in versions name = option_and_then (λ v. option_map deprecation v.warning) (version_in versions name)
+warning_in versions name =
+    option_and_then (λ v. option_map deprecation v.warning) (version_in versions name)
 
 abbrev pub served_in : List KnownVersion → GroupVersionResource → Option ServedVersion
 served_in versions name = find (is_shown_as name) (served_of versions)
@@ -114,7 +120,8 @@ pub record IsOfResource (text group resource : List ℕ) (t : VersionTable) : Ty
 
 -- a live version of the resource
 abbrev pub is_live_of : List ℕ → List ℕ → KnownVersion → Bool
-is_live_of group resource v = v.live && bytes_eq v.table.group group && bytes_eq v.table.resource resource
+is_live_of group resource v =
+    v.live && bytes_eq v.table.group group && bytes_eq v.table.resource resource
 
 abbrev pub has_live : List KnownVersion → List ℕ → List ℕ → Bool
 has_live versions group resource = list_any (is_live_of group resource) versions
@@ -125,10 +132,12 @@ best_table_in versions group resource =
     option_map (λ v. v.table) (find (is_live_of group resource) versions)
 
 -- of the resource's live versions none is more stable
-pub record IsBest (versions : List KnownVersion) (group resource : List ℕ) (v : KnownVersion) : Type 0 where
+pub record IsBest (versions : List KnownVersion) (group resource : List ℕ)
+    (v : KnownVersion) : Type 0 where
   pub among : Contains versions v
   pub is_live : is_live_of group resource v ≡ true
-  pub best : All (λ w. is_live_of group resource w ≡ true → by_stability v.word w.word ≢ Greater) versions
+  pub best : All (λ w. is_live_of group resource w ≡ true → by_stability v.word w.word ≢ Greater)
+      versions
 
 -- the table of the most stable live version of the resource
 abbrev pub IsBestTable : List KnownVersion → List ℕ → List ℕ → VersionTable → Type 0

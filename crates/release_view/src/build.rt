@@ -72,7 +72,8 @@ fn known_version<'a>(
     entry: &'a ApiEntry,
 ) -> Result<Option<KnownVersion>, Memory>
     requires { IsVersion entry.now.version }
-    ensures { IfOk result (IsVersionOf (record { apis = index.now; source = rows.now }) on.now (subject entry.now)) }
+    ensures { IfOk result
+        (IsVersionOf (record { apis = index.now; source = rows.now }) on.now (subject entry.now)) }
 {
     let name = entry.name();
     if !index.is_decodable(name) {
@@ -113,7 +114,8 @@ fn gathered<'a>(
     on: &Enabled,
 ) -> Result<Vec<KnownVersion>, Memory>
     requires { All (λ x. IsVersion x.version) entries.now }
-    ensures { IfOk result (λ v. IsGathered (record { apis = index.now; source = rows.now }) on.now entries.now v.items) }
+    ensures { IfOk result (λ v. IsGathered (record { apis = index.now; source = rows.now })
+        on.now entries.now v.items) }
 {
     let mut versions = BTreeSet::new(alloc);
     for entry in entries {
@@ -122,10 +124,7 @@ fn gathered<'a>(
             Ok(None) => continue,
             Err(Memory) => return Err(Memory),
         };
-        match versions.insert(version) {
-            Ok(_) => {}
-            Err(_) => return Err(Memory),
-        }
+        versions.insert(version)?;
     }
     let versions = versions.into_iter().collect(alloc)?;
     Ok(versions)

@@ -1,12 +1,12 @@
-//! The view of a release where no text sets gates or versions.
-ghost use Rattle.std.specs.Prelude.{◌≤◌, [], IfOk};
+//! The view of a release under a runtime configuration, with its gates as they are by default.
+ghost use Rattle.std.specs.Prelude.{◌≡◌, ◌≢◌, ◌≤◌, [], OnOk, IfOk, IfErr};
 ghost use Rattle.flag_text.specs.Pieces.{pieces};
 ghost use Rattle.gate_flags.specs.Flags.{IsFeatureText};
 ghost use Rattle.gate_flags.specs.Values.{AreGateValues};
 ghost use Rattle.gate_spec.specs.Gates.{RisesInDate, cutoff as gate_cutoff};
 ghost use Rattle.lifecycle.specs.Tables.{cutoff};
-ghost use Rattle.release_view.specs.Views.{IsDefaultView};
-ghost use Rattle.runtime_config.specs.Config.{AreServed};
+ghost use Rattle.release_view.specs.Views.{IsDefaultView, IsViewByTexts};
+ghost use Rattle.runtime_config.specs.Config.{IsRuntimeText, IsTextFault};
 ghost use Rattle.schemas.specs.Rules.{first_of, last_of};
 
 use crate::build::view_at;
@@ -15,9 +15,8 @@ use crate::release::View;
 use basis::Memory;
 use gate_flags::{GateFault, GateValues, gate_values};
 use gate_spec::GateEntry;
-use lifecycle::ApiEntry;
 use minor_version::Minor;
-use runtime_config::{ConfigFault, Enabled, enabled_at};
+use runtime_config::{ConfigFault, enabled_at};
 use schemas::Accepted;
 use std::alloc::Global;
 
@@ -34,27 +33,43 @@ fn default_gates(alloc: Global, entries: &[GateEntry], e: Minor) -> Result<GateV
     }
 }
 
-/// The versions that are served where no text switches any.
-fn served_by_default(alloc: Global, entries: &[ApiEntry], e: Minor) -> Result<Enabled, Memory>
-    ensures { IfOk result (AreServed (cutoff entries.now e) (pieces [])) }
+/// The view of the release e with its gates as they are by default, and the versions that it serves under this runtime
+/// configuration: that which the empty feature gate text and this one make. The configuration is refused exactly where
+/// the release refuses it.
+pub fn view_by_config(
+    alloc: Global,
+    a: &Accepted,
+    e: Minor,
+    config: &[u8],
+) -> Result<View, ConfigFault>
+    requires from { first_of a.now ≤ e }
+    requires to { e ≤ last_of a.now }
+    ensures accepted { OnOk result (IsRuntimeText (cutoff a.now.apis e) config.now) }
+    ensures view { IfOk result (IsViewByTexts a.now e [] config.now) }
+
+    // Only want of memory refuses a valid text.
+    ensures fault { IfErr result (IsTextFault a.now.apis e config.now) }
+    ensures refused { IfErr result (λ fault. fault ≢ ConfigFault.Memory →
+        ¬ IsRuntimeText (cutoff a.now.apis e) config.now) }
 {
-    match enabled_at(alloc, entries, e, b"") {
-        Ok(on) => Ok(on),
-        Err(ConfigFault::Memory) => Err(Memory),
-        Err(_) => unreachable!(),
-    }
+    let history = a.history();
+    let gates = default_gates(alloc, history.gates.items(), e)?;
+    let on = enabled_at(alloc, history.apis.items(), e, config)?;
+    texts_make_view(a, e, b"", &gates, config, &on);
+    let view = view_at(alloc, a, e, gates, on)?;
+    Ok(view)
 }
 
-/// The view of the release e with its gates as they are by default, and the versions that their introductions enable: that
-/// which empty texts make.
+/// The view of the release e with its gates as they are by default, and the versions that their introductions enable:
+/// that which empty texts make.
 pub fn default_view(alloc: Global, a: &Accepted, e: Minor) -> Result<View, Memory>
     requires from { first_of a.now ≤ e }
     requires to { e ≤ last_of a.now }
     ensures { IfOk result (IsDefaultView a.now e) }
 {
-    let history = a.history();
-    let gates = default_gates(alloc, history.gates.items(), e)?;
-    let on = served_by_default(alloc, history.apis.items(), e)?;
-    texts_make_view(a, e, b"", &gates, b"", &on);
-    view_at(alloc, a, e, gates, on)
+    match view_by_config(alloc, a, e, b"") {
+        Ok(view) => Ok(view),
+        Err(ConfigFault::Memory) => Err(Memory),
+        Err(_) => unreachable!(),
+    }
 }

@@ -19,8 +19,8 @@ use minor_version::Minor;
 use runtime_config::Enabled;
 use schemas::{Accepted, History};
 
-/// The tables of a release, the values of its gates and its served versions determine its view; where the history is cut
-/// at the release or at a later one, the view is the same.
+/// The tables of a release, the values of its gates and its served versions determine its view; where the history is
+/// cut at the release or at a later one, the view is the same.
 pub fn tables_determine_view(history: &History, cut: &History, e: Minor, o: Minor)
     requires cut { cut.now ≡ history_cutoff history.now o }
     requires later { e ≤ o }
@@ -28,7 +28,8 @@ pub fn tables_determine_view(history: &History, cut: &History, e: Minor, o: Mino
     ensures { HasOneView history.now cut.now e }
 {}
 
-/// Histories that have the same tables at a release of which both speak have the same views of it, and take the same texts.
+/// Histories that have the same tables at a release of which both speak have the same views of it, and take the same
+/// texts.
 pub fn same_tables_view_alike(history: &History, other: &History, e: Minor)
     requires same { HaveSameTables history.now other.now e }
     requires of_first { SpeaksOf history.now e }
@@ -57,8 +58,8 @@ pub fn texts_make_view(
     let _gates = &history.gates;
 }
 
-/// What is live in a view of an accepted history is read in a later view of it, up to three releases on, with the rows that
-/// it has in the earlier one.
+/// What is live in a view of an accepted history is read in a later view of it, up to three releases on, with the rows
+/// that it has in the earlier one.
 pub fn later_view_reads_live(back: &View, view: &View)
     ensures { ReadsLiveOf back.now view.now }
 {

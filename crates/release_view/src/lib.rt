@@ -2,7 +2,7 @@
 #![tactic(auto)]
 
 mod build;
-mod defaults;
+mod by_config;
 mod known;
 mod law;
 mod order;
@@ -10,7 +10,7 @@ mod release;
 mod served;
 
 pub use build::view_at;
-pub use defaults::default_view;
+pub use by_config::{default_view, view_by_config};
 pub use law::{
     later_view_reads_live, same_tables_view_alike, tables_determine_view, texts_make_view,
 };

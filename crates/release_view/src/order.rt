@@ -1,5 +1,5 @@
-//! The place of a version in a view: by group, then from the most stable on, then by resource. A view has one version at
-//! each place.
+//! The place of a version in a view: by group, then from the most stable on, then by resource. A view has one version
+//! at each place.
 use crate::known::KnownVersion;
 use std::cmp::Ordering;
 
@@ -57,7 +57,8 @@ impl PartialOrd for KnownVersion {
 
     ghost partial_cmp = { as_partial_cmp by_place };
 
-    ghost laws = { partial_order_from_agreeing_total by_place by_place_total (Prim.search (comparing, rules)) (Prim.search (comparing, rules)) };
+    ghost laws = { partial_order_from_agreeing_total by_place by_place_total
+        (Prim.search (comparing, rules)) (Prim.search (comparing, rules)) };
 
     fn partial_cmp(&self, other: &KnownVersion) -> Option<Ordering> {
         Some(self.cmp(other))

@@ -140,7 +140,8 @@ fn of_resource_in<'a>(
     group: &[u8],
     resource: &[u8],
 ) -> Option<&'a KnownVersion>
-    ensures { option_copied result ≡ find (is_of_resource text.now group.now resource.now) versions.now }
+    ensures { option_copied result
+        ≡ find (is_of_resource text.now group.now resource.now) versions.now }
 {
     versions
         .iter()
@@ -167,7 +168,8 @@ impl View {
         versions: Vec<KnownVersion>,
         served: Vec<ServedVersion>,
     ) -> View
-        requires kept { IsKept (record { minor = minor; gates = gates; versions = versions.items }) }
+        requires kept { IsKept
+            (record { minor = minor; gates = gates; versions = versions.items }) }
         requires listed { served.items ≡ served_of versions.items }
         ensures minor { result.minor ≡ minor }
         ensures gates { result.gates ≡ gates }
@@ -221,7 +223,8 @@ impl View {
     /// The table of the version that objects with this `apiVersion` and `kind` are in. None where there is none that is
     /// read at the release.
     pub fn table_of_kind(&self, api_version: &str, kind: &str) -> Option<&VersionTable>
-        ensures value { option_copied result ≡ kind_table_in self.now.versions api_version.now kind.now }
+        ensures value { option_copied result
+            ≡ kind_table_in self.now.versions api_version.now kind.now }
         ensures kind { IfSome result (λ t. IsOfKind api_version.now kind.now t.now) }
         ensures lawful { IfSome result (λ t. AreLawful t.now.rows) }
     {
@@ -231,7 +234,8 @@ impl View {
         }
     }
 
-    /// The table of the resource's version with this `apiVersion`. None where there is none that is read at the release.
+    /// The table of the resource's version with this `apiVersion`. None where there is none that is read at the
+    /// release.
     pub fn table_of_version(
         &self,
         api_version: &str,
@@ -240,7 +244,8 @@ impl View {
     ) -> Option<&VersionTable>
         ensures value { option_copied result
             ≡ version_table_in self.now.versions api_version.now group.now resource.now }
-        ensures name { IfSome result (λ t. IsOfResource api_version.now group.now resource.now t.now) }
+        ensures name { IfSome result
+            (λ t. IsOfResource api_version.now group.now resource.now t.now) }
         ensures lawful { IfSome result (λ t. AreLawful t.now.rows) }
     {
         match of_resource_in(self.versions.as_slice(), api_version, group, resource) {
@@ -260,8 +265,10 @@ impl View {
 
     /// The table of the most stable live version of the resource. None where none is live.
     pub fn live_best(&self, group: &[u8], resource: &[u8]) -> Option<&VersionTable>
-        ensures value { option_copied result ≡ best_table_in self.now.versions group.now resource.now }
-        ensures best { IfSome result (λ t. IsBestTable self.now.versions group.now resource.now t.now) }
+        ensures value { option_copied result
+            ≡ best_table_in self.now.versions group.now resource.now }
+        ensures best { IfSome result
+            (λ t. IsBestTable self.now.versions group.now resource.now t.now) }
         ensures there { is_some result ≡ has_live self.now.versions group.now resource.now }
         ensures lawful { IfSome result (λ t. AreLawful t.now.rows) }
     {
@@ -297,8 +304,9 @@ impl View {
 
 // The laws of a view, each as the contract of a function that does nothing.
 
-/// What the type of a view keeps: its versions are in order, each with the word of its text, and what is served is live.
-/// Their tables are lawful, and those of a resource spell the same fields. The gates are in order of their names.
+/// What the type of a view keeps: its versions are in order, each with the word of its text, and what is served is
+/// live. Their tables are lawful, and those of a resource spell the same fields. The gates are in order of their
+/// names.
 pub fn view_is_kept(view: &View)
     ensures { IsKept view.now }
 {
@@ -312,8 +320,8 @@ pub fn versions_spell_alike(view: &View)
     let _versions = &view.versions;
 }
 
-/// Of a view's versions each is the one that is found: by its name, by its texts, and as the best of its resource, which
-/// so is one.
+/// Of a view's versions each is the one that is found: by its name, by its texts, and as the best of its resource,
+/// which so is one.
 pub fn view_finds_each(view: &View)
     ensures { FindsEach view.now.versions }
 {

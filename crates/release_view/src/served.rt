@@ -43,10 +43,8 @@ pub fn served_versions(
         if !version.served {
             continue;
         }
-        match shown(alloc, version) {
-            Ok(version) => served.push(version)?,
-            Err(Memory) => return Err(Memory),
-        }
+        let version = shown(alloc, version)?;
+        served.push(version)?;
     }
     Ok(served)
 }

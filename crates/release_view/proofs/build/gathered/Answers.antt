@@ -17,8 +17,8 @@ loop-entry-preserved-in-Ok-None c =
 
 pub loop-entry-preserved : goal.loop-entry-preserved
 loop-entry-preserved c =
-    let keys : c.insert.new.self.keys ≡ insert_key by_place c.loop-entry.versions.keys c.in-Ok-Some.version = c.in-Ok.ensures.keys in
+    let keys : c.insert.new.self.keys ≡ insert_key by_place c.loop-entry.versions.keys c.in-Ok-Some.version = c.in_ok-insert.ensures.keys in
     let known : IsVersionOf (record { apis = c.args.index.now; source = c.args.rows.now }) c.args.on.now (subject c.entry-item.result) (Some c.in-Ok-Some.version) = subst (IsVersionOf (record { apis = c.args.index.now; source = c.args.rows.now }) c.args.on.now (subject c.entry-item.result)) c.in-Ok-Some.field-0-is c.in-Ok-Some.ensures in
     rw (take_more c.args.entries.now c.loop-entry.entry-index c.entry-item.result c.loop-entry-test.true, ← c.entry-item.is, keys)
     (gathered_more (record { apis = c.args.index.now; source = c.args.rows.now }) c.args.on.now _ c.entry-item.result _ c.in-Ok-Some.version known.0 known.1 c.loop-entry.invariant
-    (rw (← keys) c.in-Ok.ensures.ordered))
+    (rw (← keys) c.in_ok-insert.ensures.ordered))

@@ -2,7 +2,7 @@ use Rattle.std.proofs.Common.{◌≡◌, ap, sym, subst, ◌∙◌}
 use Rattle.gate_spec.specs.Gates.{RisesInDate}
 use Rattle.schemas.specs.Dated.{Dated}
 use Rattle.schemas.proofs.LawLemmas.{gates_rise}
-use Rattle.release_view.proofs.defaults.default_view.Goals as goal
+use Rattle.release_view.proofs.by_config.view_by_config.Goals as goal
 
 pub default_gates-requires : goal.default_gates-requires
 default_gates-requires c =
