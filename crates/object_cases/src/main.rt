@@ -8,31 +8,40 @@ mod rows;
 mod values;
 
 use listings::listed_places;
-use maps::{changes, compared};
-use minor_version::{Memory, Text};
-use objects::{answer_of_object, is_object};
-use rows::{are_apart_paths, is_path_of_field, keeps_order, table_of};
+use maps::{are_same, changes};
+use minor_version::Memory;
+use objects::{BODY, STORED, WHOLE, is_object, shown_object};
+use rows::{are_apart_paths, is_lawful_table, is_path_of_field, keeps_order};
 use std::alloc::Global;
 use std::io;
 use values::{has_form, is_default};
 
-fn yes_or_no(holds: bool) -> &'static str {
-    if holds { "yes" } else { "no" }
+/// What holds, of the questions that ask for no more.
+fn holds(alloc: Global, question: &str, rest: &str) -> Result<bool, Memory> {
+    match question {
+        "path" => is_path_of_field(alloc, rest),
+        "apart" => are_apart_paths(alloc, rest),
+        "default" => is_default(alloc, rest),
+        "same" => are_same(alloc, rest),
+        "order" => keeps_order(alloc, rest),
+        "table" => is_lawful_table(alloc, rest),
+        "object" => is_object(alloc, rest),
+        _ => Ok(question == "form" && has_form(rest)),
+    }
 }
 
-fn answer(alloc: Global, question: &str, rest: &str) -> Result<Text, Memory> {
+fn yes_or_no(alloc: Global, holds: bool) -> Result<String, Memory> {
+    Ok(String::from_str(alloc, if holds { "yes" } else { "no" })?)
+}
+
+fn answer(alloc: Global, question: &str, rest: &str) -> Result<String, Memory> {
     match question {
-        "path" => Text::from_str(alloc, yes_or_no(is_path_of_field(alloc, rest)?)),
-        "apart" => Text::from_str(alloc, yes_or_no(are_apart_paths(alloc, rest)?)),
-        "form" => Text::from_str(alloc, yes_or_no(has_form(rest))),
-        "default" => Text::from_str(alloc, yes_or_no(is_default(alloc, rest)?)),
-        "same" => Text::from_str(alloc, yes_or_no(compared(alloc, rest)?)),
         "map" => changes(alloc, rest),
-        "order" => Text::from_str(alloc, yes_or_no(keeps_order(alloc, rest)?)),
-        "table" => Text::from_str(alloc, yes_or_no(table_of(alloc, rest)?.rows.are_lawful())),
         "listed" => listed_places(alloc, rest),
-        "object" => Text::from_str(alloc, yes_or_no(is_object(alloc, rest.as_bytes())?)),
-        _ => answer_of_object(alloc, question, rest),
+        "stored" => shown_object(alloc, STORED, rest),
+        "body" => shown_object(alloc, BODY, rest),
+        "whole" => shown_object(alloc, WHOLE, rest),
+        _ => yes_or_no(alloc, holds(alloc, question, rest)?),
     }
 }
 
@@ -43,7 +52,7 @@ fn main(rt: HostRuntime) -> anyhow::Result<()> {
         let line = line.as_str();
         let (question, rest) = line.split_once(' ').unwrap_or((line, ""));
         let answered = answer(alloc, question, rest)?;
-        println!(rt; "{line}: {}", answered.as_str())?;
+        println!(rt; "{line}: {}", answered.as_str().trim_ascii_end())?;
     }
     Ok(())
 }
