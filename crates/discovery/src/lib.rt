@@ -14,3 +14,4 @@ pub use groups::{group, group_list};
 pub use law::{groups_are_exact, lists_are_in_order, metrics_are_exact};
 pub use releases::version_info;
 pub use resources::resource_list;
+pub use text::group_version;

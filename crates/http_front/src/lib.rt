@@ -12,6 +12,7 @@ mod route;
 mod take;
 
 pub use next::{next_item, nothing_known, stream_stays_known};
+pub use path::{is_namespace, is_object_name};
 pub use refusal::refusal_body;
 pub use reply::{Page, Reply, bad_reply, reply_bytes, reply_reads_back};
 pub use request::{Known, Length, Next, Request, Taken, Verb};
