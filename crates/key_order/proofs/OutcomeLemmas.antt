@@ -29,11 +29,14 @@ module _ {A : Type 0} (key_of : A → Key) where
   place_behind x xs key h = (suc h.0, record { within = (let w = h.1.within in omega (arith, w)); there = λ d. h.1.there d })
 
   gap_behind : (x : A) (xs : List A) (key : Key) → by_key (key_of x) key ≡ Less → HasGap xs key → HasGap (x ∷ xs) key
-  gap_behind x xs key less h = (suc h.0, record {
-    within = (let w = h.1.within in omega (arith, w));
-    below = All-cons (λ y. by_key (key_of y) key ≡ Less) x _ less h.1.below;
-    above = h.1.above;
-  })
+  gap_behind x xs key less h = (
+    suc h.0,
+    record {
+      within = (let w = h.1.within in omega (arith, w));
+      below = All-cons (λ y. by_key (key_of y) key ≡ Less) x _ less h.1.below;
+      above = h.1.above;
+    },
+  )
 
   -- a key has a place or a gap
   pub located : (items : List A) (key : Key) → AreInKeyOrder key_of items → HasPlace items key ⊎ HasGap items key

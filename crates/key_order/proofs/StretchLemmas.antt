@@ -1,6 +1,7 @@
 -- The elements of one resource, and those of one namespace of it, are one stretch of a list in key order.
 use Rattle.std.proofs.Common.{◌≡◌, ⊎_elim, Bool, true, false, ◌&&◌, ℕ, ◌+◌, ◌-◌, ◌<◌, ◌≤◌, List, [], ◌∷◌, ◌++◌, length, get_or, take, drop, filter, refl, sym, ap, subst, ◌∙◌, arith, rules, length-drop}
 use Rattle.std.specs.Prelude.{All}
+use Rattle.std.specs.Str.{bytes_eq}
 use Rattle.std.specs.Cmp.{IsTotalOrder}
 use Rattle.std.specs.Cmp.Rules.{comparing}
 use Rattle.std.specs.Cmp.Lexicographic.{slice_cmp}
@@ -194,13 +195,25 @@ then_less Less n m e h = absurd (let f : Less ≡ Equal = e in cc)
 then_less Equal n m e h = h
 then_less Greater n m e h = absurd (let f : Greater ≡ Equal = e in cc)
 
--- the elements of one resource stand by namespace, then name
-pub by_namespace_then_name : {A : Type 0} (key_of : A → Key) (items : List A) (group resource : List ℕ) → AreInKeyOrder key_of items → AreByNamespace key_of (filter (λ x. is_of group resource (key_of x)) items)
-by_namespace_then_name key_of items group resource o i j d lt below =
-    let p = λ (x : _). is_of group resource (key_of x) in
+both_true : (a b : Bool) → (a && b) ≡ true → a ≡ true
+both_true true b h = refl
+both_true false b h = h
+
+-- elements of one resource stand by namespace, then name
+by_namespace_of : {A : Type 0} (key_of : A → Key) (items : List A) (group resource : List ℕ) (p : A → Bool) → ((x : A) → p x ≡ true → is_of group resource (key_of x) ≡ true) → AreInKeyOrder key_of items → AreByNamespace key_of (filter p items)
+by_namespace_of key_of items group resource p one o i j d lt below =
     let xs = filter p items in
     let passes = filter_passes p items in
     let pairs = AllPairs-filter (λ x y. by_key (key_of x) (key_of y) ≡ Less) p items (λ i j d lt below. in_order key_of items i j d o lt below) in
     let x = get_or xs i d in
     let y = get_or xs j d in
-    then_less (by_resource (key_of x) (key_of y)) _ _ (one_resource group resource (key_of x) (key_of y) (passes i d (omega (arith, lt, below))) (passes j d below)) (pairs i j d lt below)
+    then_less (by_resource (key_of x) (key_of y)) _ _ (one_resource group resource (key_of x) (key_of y) (one x (passes i d (omega (arith, lt, below)))) (one y (passes j d below))) (pairs i j d lt below)
+
+-- all those of one resource do
+pub by_namespace_then_name : {A : Type 0} (key_of : A → Key) (items : List A) (group resource : List ℕ) → AreInKeyOrder key_of items → AreByNamespace key_of (filter (λ x. is_of group resource (key_of x)) items)
+by_namespace_then_name key_of items group resource o = by_namespace_of key_of items group resource (λ x. is_of group resource (key_of x)) (λ x is. is) o
+
+-- those of one namespace of it do
+pub inside_by_name : {A : Type 0} (key_of : A → Key) (items : List A) (group resource namespace : List ℕ) → AreInKeyOrder key_of items → AreByNamespace key_of (filter (λ x. is_inside group resource namespace (key_of x)) items)
+inside_by_name key_of items group resource namespace o = by_namespace_of key_of items group resource (λ x. is_inside group resource namespace (key_of x))
+    (λ x is. both_true (is_of group resource (key_of x)) (bytes_eq (key_of x).namespace namespace) is) o

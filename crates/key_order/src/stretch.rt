@@ -29,8 +29,8 @@ fn bounds_of<T: Keyed>(items: &[T], group: &[u8], resource: &[u8]) -> (usize, us
     requires { AreInKeyOrder T.key_of items.now }
     ensures { AreBounds (λ x. side_of group.now resource.now (T.key_of x)) items.now result.0 result.1 }
 {
-    let start = items.partition_point(|item| side_of(item.key(), group, resource).is_lt());
-    let end = items.partition_point(|item| side_of(item.key(), group, resource).is_le());
+    let start = items.partition_point(|x| side_of(x.key(), group, resource).is_lt());
+    let end = items.partition_point(|x| side_of(x.key(), group, resource).is_le());
     (start, end)
 }
 
@@ -54,18 +54,8 @@ fn bounds_inside<T: Keyed>(
     ensures { AreBounds (λ x. side_inside group.now resource.now namespace.now (T.key_of x))
         items.now result.0 result.1 }
 {
-    let start = items.partition_point(|item| side_inside(
-        item.key(),
-        group,
-        resource,
-        namespace,
-    ).is_lt());
-    let end = items.partition_point(|item| side_inside(
-        item.key(),
-        group,
-        resource,
-        namespace,
-    ).is_le());
+    let start = items.partition_point(|x| side_inside(x.key(), group, resource, namespace).is_lt());
+    let end = items.partition_point(|x| side_inside(x.key(), group, resource, namespace).is_le());
     (start, end)
 }
 

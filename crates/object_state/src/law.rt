@@ -4,7 +4,7 @@ ghost use Rattle.object_journal.specs.declared.key.Key.{Key as KeyS};
 ghost use Rattle.key_order.specs.Stretches.{AreByNamespace};
 ghost use Rattle.object_state.specs.declared.object.Object.{Object as ObjectS};
 ghost use Rattle.object_state.specs.declared.object.Stored.{Stored as StoredS};
-ghost use Rattle.object_state.specs.Objects.{AreInKeyOrder, Holds, HasKey, IsChanged, objects_of};
+ghost use Rattle.object_state.specs.Objects.{AreInKeyOrder, Holds, HasKey, IsChanged, objects_of, objects_inside};
 ghost use Rattle.object_state.specs.State.{State as StateS, IsApplied};
 
 use crate::object::{Change, Stored};
@@ -43,8 +43,15 @@ pub fn change_counts_objects(objects: &[Stored], change: &Change)
         → length new + 1 ≡ length objects.now }
 {}
 
-/// The objects of a resource stand by namespace, then name.
-pub fn listed_objects_stand_by_name(objects: &[Stored], group: &[u8], resource: &[u8])
+/// The objects of a resource, and those of one namespace of it, stand by namespace, then name.
+pub fn listed_objects_stand_by_name(
+    objects: &[Stored],
+    group: &[u8],
+    resource: &[u8],
+    namespace: &[u8],
+)
     requires { AreInKeyOrder objects.now }
-    ensures { AreByNamespace (λ s. s.key) (objects_of group.now resource.now objects.now) }
+    ensures whole { AreByNamespace (λ s. s.key) (objects_of group.now resource.now objects.now) }
+    ensures inside { AreByNamespace (λ s. s.key)
+        (objects_inside group.now resource.now namespace.now objects.now) }
 {}
