@@ -1,5 +1,4 @@
 pub mod StoreLaws
-mod OrderLemmas
 mod ChangeLemmas
 mod LeftLemmas
 mod NextLemmas

@@ -1,13 +1,10 @@
 -- Which entry may follow those of a store, and what its change leaves.
-use Rattle.std.proofs.Common.{◌≡◌, ◌⊎◌, inl, inr, ⊎_elim, ℕ, suc, ◌+◌, ◌<◌, ◌≤◌, List, [], ◌∷◌, ◌++◌, length, set, take, map, Contains, refl, sym, ap, subst, ◌∙◌, arith}
-use Rattle.std.specs.Prelude.{All, insert, remove}
-use Rattle.std.specs.Ordering.{ordering_reverse}
-use Rattle.std.specs.declared.cmp.Ordering.{Ordering}
-use Rattle.std.specs.declared.cmp.Ordering.TheVariants.{Less, Equal, Greater}
+use Rattle.std.proofs.Common.{◌≡◌, ◌⊎◌, inl, inr, ⊎_elim, ℕ, suc, ◌+◌, ◌<◌, ◌≤◌, List, [], ◌∷◌, ◌++◌, length, map, Contains, refl, sym, ap, subst, ◌∙◌, arith}
+use Rattle.std.specs.Prelude.{All}
 use Rattle.std.proofs.lemmas.Bool.{cases_lt}
 use Rattle.std.proofs.lemmas.Cmp.{eq_by_cmp_equiv}
 use Rattle.std.proofs.lemmas.List.{length-map}
-use Rattle.std.proofs.lemmas.List.Elements.{All-nil, All-cons, All-weaker, All-contains}
+use Rattle.std.proofs.lemmas.List.Elements.{All-weaker, All-contains}
 use Rattle.std.proofs.lemmas.Map.Made.{IsDistinct-from_AllPairs, is_member-Decides, length-le_from_is_member}
 use Rattle.object_journal.specs.declared.key.Key.{Key}
 use Rattle.object_journal.specs.declared.entry.Entry.{Entry}
@@ -15,44 +12,22 @@ use Rattle.object_journal.specs.declared.entry.Change.{Change}
 use Rattle.object_journal.specs.declared.entry.Change.TheVariants.{Put, Removal}
 use Rattle.object_journal.specs.Payload.{longest_payload, payload_of, created_of, body_of}
 use Rattle.object_journal.specs.Journal.{Leaves, IsHeld, IsPut, IsLawfulChange, IsNextRevision, HasLawfulTexts, FewHeld, AreLawful, last_revision, most_keys, revision_after}
-use Rattle.object_journal.specs.KeyOrder.{by_key}
-use Rattle.object_journal.proofs.KeyLaws.{by_key_total, exact_keys, same_decides, same_or_not}
+use Rattle.object_journal.proofs.KeyLaws.{by_key_total, same_decides}
 use Rattle.object_journal.proofs.EntryLaws.{leaves_last, leaves_more, leaves_cases, held_cases}
+use Rattle.key_order.proofs.OrderLemmas.{all_of, head_or_tail, one_of_key, holds_or_not, one_list}
+use Rattle.key_order.proofs.OutcomeLemmas.{can_put, can_remove}
 use Rattle.object_store.specs.declared.item.Item.{Item}
-use Rattle.object_store.specs.Records.{AreInKeyOrder, AreRecords, HoldsKey, IsPlaceOf, IsGapOf, IsChanged, put_of}
+use Rattle.object_store.specs.Records.{AreInKeyOrder, AreRecords, HoldsKey, IsChanged, put_of}
 use Rattle.object_store.specs.Stores.{StoreRecord, HaveLawfulTexts, Recalls, IsCreated, IsFull, IsPutOf, IsRemovalOf, KeepsCreated, MayCommit}
-use Rattle.object_store.proofs.ChangeLemmas.{all_of, head_there, tail_there, head_or_tail, turned, below_apart, put_in_place, put_in_gap, removed_from_place, removed_from_gap}
+use Rattle.object_store.proofs.ChangeLemmas.{key_of, put_changes, removal_changes}
 
--- ---- keys of records
-
-pub one_of_key : (items : List Item) (q r : Item) → AreInKeyOrder items → Contains items q → Contains items r → q.key ≡ r.key → q ≡ r
-one_of_key [] q r o at_q at_r e = absurd (let below = at_q.1 in omega (arith, below))
-one_of_key (x ∷ xs) q r o at_q at_r e = ⊎_elim
-    (λ (is_q : x ≡ q). ⊎_elim
-    (λ (is_r : x ≡ r). sym is_q ∙ is_r)
-    (λ (later_r : Contains xs r). absurd (below_apart x.key r.key (All-contains (λ s. by_key x.key s.key ≡ Less) xs r o.0 later_r) (ap (λ (i : Item). i.key) is_q ∙ e)))
-    (head_or_tail x r xs at_r))
-    (λ (later_q : Contains xs q). ⊎_elim
-    (λ (is_r : x ≡ r). absurd (below_apart x.key q.key (All-contains (λ s. by_key x.key s.key ≡ Less) xs q o.0 later_q) (ap (λ (i : Item). i.key) is_r ∙ sym e)))
-    (λ (later_r : Contains xs r). one_of_key xs q r o.1 later_q later_r e)
-    (head_or_tail x r xs at_r))
-    (head_or_tail x q xs at_q)
+-- ---- records of a key
 
 pub created_of_held : (items : List Item) (key : Key) (next : ℕ) (q : Item) → AreInKeyOrder items → Contains items q → q.key ≡ key → IsCreated items key next q.created
 created_of_held items key next q o there is = record {
-  held = λ r at e. ap (λ (i : Item). i.created) (one_of_key items q r o there at (is ∙ sym e));
+  held = λ r at e. ap (λ (i : Item). i.created) (one_of_key key_of items q r o there at (is ∙ sym e));
   fresh = λ none. absurd (none (q, there, is));
 }
-
-holds_or_not : (items : List Item) (key : Key) → HoldsKey items key ⊎ (HoldsKey items key → ⊥)
-holds_or_not [] key = inr (λ h. let below = h.1.1 in absurd (omega (arith, below)))
-holds_or_not (x ∷ xs) key = ⊎_elim
-    (λ is. inl (x, head_there x xs, is))
-    (λ apart. ⊎_elim
-    (λ h. inl (h.0, tail_there x h.0 xs h.1, h.2))
-    (λ none. inr (λ h. ⊎_elim (λ e. apart (ap (λ (i : Item). i.key) e ∙ h.2)) (λ later. none (h.0, later, h.2)) (head_or_tail x h.0 xs h.1)))
-    (holds_or_not xs key))
-    (same_or_not x.key key)
 
 -- ---- entries that leave them
 
@@ -149,7 +124,7 @@ created_next s entries key created r keeps = ⊎_elim
     let is = keeps.held h.0 h.1 h.2 in
     (omega (arith, fits.0, is), omega (arith, fits.1, is, r.revision)))
     (λ none. let is = keeps.fresh none in (omega (arith, is), omega (arith, is)))
-    (holds_or_not s.items key)
+    (holds_or_not key_of s.items key)
 
 lawful_put : (entries : List Entry) (e : Entry) (c : Change) (created : ℕ) (body : List ℕ) → c ≡ Put created body → (1 ≤ created) × (created ≤ e.revision) → IsLawfulChange entries e c
 lawful_put entries e c created body is fits = subst (IsLawfulChange entries e) (sym is) fits
@@ -170,7 +145,7 @@ may_put s entries key body e r put texts room within =
         few = ⊎_elim
             (λ h. few_with_held s.journal.base entries e r.lawful (subst (IsHeld entries) (sym put.key_is) (held_by_entries entries s.items key r.records h)))
             (λ none. few_with_new entries s.items e r.records (⊎_elim (λ lt. lt) (λ ge. absurd (room (inr (none, ge)))) (cases_lt (length s.items) most_keys)))
-            (holds_or_not s.items key);
+            (holds_or_not key_of s.items key);
       };
       next = put.next;
       keeps = keeps_put s.items e e.change put.created body put.put (subst (λ (k : Key). IsCreated s.items k e.revision put.created) (sym put.key_is) (subst (λ n. IsCreated s.items key n put.created) (sym put.next) put.keeps));
@@ -214,87 +189,22 @@ texts_changed old e new texts text changed = all_of (λ r. HasLawfulTexts r.key)
     (λ was. All-contains (λ r. HasLawfulTexts r.key) old r texts was.0)
     ((changed.exact r).0 there))
 
--- ---- each key has a place or a gap
-
-or_three : (o : Ordering) → (o ≡ Less) ⊎ (o ≡ Equal) ⊎ (o ≡ Greater)
-or_three Less = inl refl
-or_three Equal = inr (inl refl)
-or_three Greater = inr (inr refl)
-
-turned_back : (a b : Key) → by_key a b ≡ Less → by_key b a ≡ Greater
-turned_back a b less = by_key_total.antisymm b a ∙ ap ordering_reverse less
-
-place_or_gap : (items : List Item) (key : Key) → AreInKeyOrder items → (i : ℕ) × (IsPlaceOf items key i ⊎ IsGapOf items key i)
-place_or_gap [] key o = (0, inr (record { within = omega arith; below = All-nil (λ r. by_key r.key key ≡ Less); above = All-nil (λ r. by_key r.key key ≡ Greater) }))
-place_or_gap (x ∷ xs) key o = ⊎_elim
-    (λ less. let later = place_or_gap xs key o.1 in (
-      suc later.0,
-      ⊎_elim
-          (λ place. inl (record { within = (let below = place.within in omega (arith, below)); there = λ d. place.there d }))
-          (λ gap. inr (record {
-            within = (let below = gap.within in omega (arith, below));
-            below = All-cons (λ r. by_key r.key key ≡ Less) x (take later.0 xs) less gap.below;
-            above = gap.above;
-          }))
-          later.1,
-    ))
-    (λ rest. ⊎_elim
-    (λ equal. (0, inl (record { within = omega arith; there = λ d. exact_keys x.key key equal })))
-    (λ greater. (
-      0,
-      inr (record {
-        within = omega arith;
-        below = All-nil (λ r. by_key r.key key ≡ Less);
-        above = All-cons (λ r. by_key r.key key ≡ Greater) x xs greater
-            (All-weaker (λ s. by_key x.key s.key ≡ Less) (λ r. by_key r.key key ≡ Greater) (λ s above. turned_back key s.key (by_key_total.trans key x.key s.key (turned x.key key greater) above)) xs o.0);
-      }),
-    ))
-    rest)
-    (or_three (by_key x.key key))
+-- ---- each entry's change can be made
 
 pub can_change : (old : List Item) (e : Entry) → AreInKeyOrder old → (new : List Item) × IsChanged old e new
 can_change old e o = kinds e.change refl
   where
-    at_key : (i : ℕ) × (IsPlaceOf old e.key i ⊎ IsGapOf old e.key i)
-    at_key = place_or_gap old e.key o
-
     kinds : (c : Change) → e.change ≡ c → (new : List Item) × IsChanged old e new
     kinds (Put created body) is =
         let r : Item = record { key = e.key; revision = e.revision; created = created; body = body } in
         let whole : put_of r ≡ e = λ i. record { key = e.key; revision = e.revision; change = sym is i } in
-        ⊎_elim
-        (λ place. (set old at_key.0 r, subst (λ (x : Entry). IsChanged old x (set old at_key.0 r)) whole (put_in_place old (set old at_key.0 r) r at_key.0 o place refl)))
-        (λ gap. (insert old at_key.0 r, subst (λ (x : Entry). IsChanged old x (insert old at_key.0 r)) whole (put_in_gap old (insert old at_key.0 r) r at_key.0 o gap refl)))
-        at_key.1
-    kinds Removal is = ⊎_elim
-        (λ place. (remove old at_key.0, removed_from_place old (remove old at_key.0) e at_key.0 o place is refl))
-        (λ gap. (old, removed_from_gap old e at_key.0 o gap is))
-        at_key.1
+        let made = can_put key_of old r o in
+        (made.0, subst (λ (x : Entry). IsChanged old x made.0) whole (put_changes old made.0 r made.1))
+    kinds Removal is =
+        let made = can_remove key_of old e.key o in
+        (made.0, removal_changes old made.0 e is made.1)
 
 -- ---- one list
 
-pub one_list : (xs ys : List Item) → AreInKeyOrder xs → AreInKeyOrder ys → ((r : Item) → Contains xs r → Contains ys r) → ((r : Item) → Contains ys r → Contains xs r) → xs ≡ ys
-one_list [] [] o p f g = refl
-one_list [] (y ∷ ys) o p f g = absurd (let there = g y (head_there y ys) in let below = there.1 in omega (arith, below))
-one_list (x ∷ xs) [] o p f g = absurd (let there = f x (head_there x xs) in let below = there.1 in omega (arith, below))
-one_list (x ∷ xs) (y ∷ ys) o p f g =
-    let first : x ≡ y = ⊎_elim
-    (λ (e : y ≡ x). sym e)
-    (λ (later : Contains ys x). ⊎_elim
-    (λ (e : x ≡ y). e)
-    (λ (late : Contains xs y). absurd (below_apart x.key x.key (by_key_total.trans x.key y.key x.key (All-contains (λ s. by_key x.key s.key ≡ Less) xs y o.0 late) (All-contains (λ s. by_key y.key s.key ≡ Less) ys x p.0 later)) refl))
-    (head_or_tail x y xs (g y (head_there y ys))))
-    (head_or_tail y x ys (f x (head_there x xs))) in
-    let rest : xs ≡ ys = one_list xs ys o.1 p.1
-    (λ r there. ⊎_elim
-    (λ (e : y ≡ r). absurd (below_apart x.key r.key (All-contains (λ s. by_key x.key s.key ≡ Less) xs r o.0 there) (ap (λ (i : Item). i.key) (first ∙ e))))
-    (λ later. later)
-    (head_or_tail y r ys (f r (tail_there x r xs there))))
-    (λ r there. ⊎_elim
-    (λ (e : x ≡ r). absurd (below_apart y.key r.key (All-contains (λ s. by_key y.key s.key ≡ Less) ys r p.0 there) (ap (λ (i : Item). i.key) (sym first ∙ e))))
-    (λ later. later)
-    (head_or_tail x r xs (g r (tail_there y r ys there)))) in
-    λ i. first i ∷ rest i
-
 pub one_records : (entries : List Entry) (xs ys : List Item) → AreRecords entries xs → AreRecords entries ys → xs ≡ ys
-one_records entries xs ys a b = one_list xs ys a.ordered b.ordered (λ r there. (b.exact r).1 ((a.exact r).0 there)) (λ r there. (a.exact r).1 ((b.exact r).0 there))
+one_records entries xs ys a b = one_list key_of xs ys a.ordered b.ordered (λ r. (λ there. (b.exact r).1 ((a.exact r).0 there), λ there. (a.exact r).1 ((b.exact r).0 there)))

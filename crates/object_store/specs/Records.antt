@@ -1,12 +1,10 @@
 -- The records that entries leave, in key order.
-use Rattle.std.specs.Prelude.{◌≡◌, ◌≢◌, ◌⊎◌, ◌↔◌, ℕ, ◌<◌, ◌≤◌, List, [], ◌∷◌, length, take, drop, All, Contains}
-use Rattle.std.specs.List.{HoldsAt}
-use Rattle.std.specs.declared.cmp.Ordering.TheVariants.{Less, Greater}
+use Rattle.std.specs.Prelude.{◌≡◌, ◌≢◌, ◌⊎◌, ◌↔◌, ℕ, List, Contains}
 use Rattle.object_journal.specs.declared.key.Key.{Key}
 use Rattle.object_journal.specs.declared.entry.Entry.{Entry}
 use Rattle.object_journal.specs.declared.entry.Change.TheVariants.{Put}
 use Rattle.object_journal.specs.Journal.{Leaves, IsJournal, revision_after}
-use Rattle.object_journal.specs.KeyOrder.{by_key}
+use Rattle.key_order.specs.Order as keyed
 use Rattle.object_store.specs.declared.item.Item.{Item}
 
 -- the put that makes a record
@@ -15,8 +13,7 @@ put_of r = record { key = r.key; revision = r.revision; change = Put r.created r
 
 -- the key of each is below those of the records behind it
 abbrev pub AreInKeyOrder : List Item → Type 0
-AreInKeyOrder [] = Unit {0}
-AreInKeyOrder (r ∷ rs) = All (λ s. by_key r.key s.key ≡ Less) rs × AreInKeyOrder rs
+AreInKeyOrder items = keyed.AreInKeyOrder (λ r. r.key) items
 
 -- a record is there exactly where the entries leave its put
 pub record AreRecords (entries : List Entry) (items : List Item) : Type 0 where
@@ -30,7 +27,7 @@ pub record IsChanged (old : List Item) (e : Entry) (new : List Item) : Type 0 wh
 
 -- a record of the key is there
 abbrev pub HoldsKey : List Item → Key → Type 0
-HoldsKey items key = (r : Item) × Contains items r × (r.key ≡ key)
+HoldsKey items key = keyed.HoldsKey (λ r. r.key) items key
 
 -- The bytes of a file give these records at this revision: those that the entries leave which the bytes mean.
 pub record RecoversTo (bytes : List ℕ) (items : List Item) (revision : ℕ) : Type 0 where
@@ -39,14 +36,3 @@ pub record RecoversTo (bytes : List ℕ) (items : List Item) (revision : ℕ) : 
   pub means : IsJournal bytes base entries
   pub records : AreRecords entries items
   pub revision_is : revision ≡ revision_after base entries
-
--- where a key stands: the place of its record
-pub record IsPlaceOf (items : List Item) (key : Key) (place : ℕ) : Type 0 where
-  pub within : place < length items
-  pub there : HoldsAt (λ r. r.key ≡ key) items place
-
--- where a record of the key would stand, between those of lower and of higher keys
-pub record IsGapOf (items : List Item) (key : Key) (place : ℕ) : Type 0 where
-  pub within : place ≤ length items
-  pub below : All (λ r. by_key r.key key ≡ Less) (take place items)
-  pub above : All (λ r. by_key r.key key ≡ Greater) (drop place items)

@@ -1,3 +1,4 @@
+use key_order::Keyed;
 use minor_version::Blob;
 use object_journal::Key;
 
@@ -11,4 +12,12 @@ pub struct Item {
     pub created: u64,
     /// The stored body.
     pub body: Blob,
+}
+
+impl Keyed for Item {
+    ghost key_of = { λ r. r.key };
+
+    fn key(&self) -> &Key {
+        &self.key
+    }
 }

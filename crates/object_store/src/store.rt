@@ -11,9 +11,10 @@ ghost use Rattle.object_store.specs.Records.{AreInKeyOrder, IsChanged, HoldsKey}
 ghost use Rattle.object_store.specs.Stores.{HaveLawfulTexts, Recalls, HasEntries, IsFull, IsPutOf, IsRemovalOf, MayCommit, LeavesRecords};
 
 use crate::item::Item;
-use crate::places::{change, created_in, item_of};
+use crate::places::{change, created_in};
 use crate::ready::{Ready, ReadyFault, ready_of};
 use disk::{Disk, Failed};
+use key_order::held;
 use minor_version::Blob;
 use object_journal::{Change, Entry, Journal, Key, LAST_REVISION, MOST_KEYS};
 use std::alloc::Global;
@@ -50,7 +51,7 @@ fn is_full(items: &[Item], revision: u64, key: &Key) -> bool
     requires { AreInKeyOrder items.now }
     ensures { IsTrue result ↔ IsFull items.now revision key.now }
 {
-    revision >= LAST_REVISION || (items.len() >= MOST_KEYS && item_of(items, key).is_none())
+    revision >= LAST_REVISION || (items.len() >= MOST_KEYS && held(items, key).is_none())
 }
 
 fn next_put(items: &[Item], revision: u64, key: Key, body: Blob) -> Entry
@@ -93,7 +94,7 @@ impl Store {
         ensures some { IfSome result (λ r. Contains self.now.items r.now × (r.now.key ≡ key.now)) }
         ensures none { IfNone result (¬ HoldsKey self.now.items key.now) }
     {
-        item_of(self.items.as_slice(), key)
+        held(self.items.as_slice(), key)
     }
 
     /// The greatest of the base and the revisions of its entries.
