@@ -35,32 +35,36 @@ fn push_records(file: &mut Vec<u8>, high: u8) -> Result<(), Memory> {
     Ok(())
 }
 
-// A journal of 4,096 widgets.
-fn full_file(alloc: Global) -> Result<Vec<u8>, Memory> {
-    let mut file = Vec::from_slice(alloc, b"KEMUJNL1\0\0\0\0\0\0\0\0")?;
+fn push_all_records(file: &mut Vec<u8>) -> Result<(), Memory> {
     for high in 0..64 {
-        match push_records(&mut file, high) {
+        match push_records(file, high) {
             Ok(()) => {}
             Err(memory) => return Err(memory),
         }
     }
     file.push(0)?;
-    Ok(file)
+    Ok(())
 }
 
-fn repeated(alloc: Global, byte: u8, count: usize) -> Result<Vec<u8>, Memory> {
-    let mut bytes = Vec::new(alloc);
-    bytes.resize(count, byte)?;
-    Ok(bytes)
+// A journal of 4,096 widgets.
+fn full_file(alloc: Global) -> Result<Vec<u8>, Memory> {
+    let mut file = Vec::from_slice(alloc, b"KEMUJNL1\0\0\0\0\0\0\0\0")?;
+    match push_all_records(&mut file) {
+        Ok(()) => Ok(file),
+        Err(memory) => Err(memory),
+    }
 }
 
 pub fn blanks(alloc: Global, count: usize) -> Result<Vec<u8>, Memory> {
-    repeated(alloc, b' ', count)
+    let mut bytes = Vec::new(alloc);
+    match bytes.resize(count, b' ') {
+        Ok(()) => Ok(bytes),
+        Err(_) => Err(Memory),
+    }
 }
 
-// The file of a put, with these bytes at the place, which are given as `PLACE,BYTE,BYTE`.
-fn changed(alloc: Global, change: &str) -> Result<Vec<u8>, Memory> {
-    let mut bytes = Vec::from_slice(alloc, file_of_a_put())?;
+// Writes the bytes at the place, which are given as `PLACE,BYTE,BYTE`.
+fn change(bytes: &mut [u8], change: &str) {
     let (at, words) = change.split_once(',').unwrap_or((change, ""));
     let mut place = at.parse::<usize>().unwrap_or(usize::MAX);
     for word in words.split(',') {
@@ -69,6 +73,16 @@ fn changed(alloc: Global, change: &str) -> Result<Vec<u8>, Memory> {
             place += 1;
         }
     }
+}
+
+fn copied(alloc: Global, bytes: &[u8]) -> Result<Vec<u8>, Memory> {
+    Ok(Vec::from_slice(alloc, bytes)?)
+}
+
+// The file of a put, changed.
+fn changed(alloc: Global, word: &str) -> Result<Vec<u8>, Memory> {
+    let mut bytes = copied(alloc, file_of_a_put())?;
+    change(bytes.as_mut_slice(), word);
     Ok(bytes)
 }
 
@@ -76,10 +90,10 @@ fn changed(alloc: Global, change: &str) -> Result<Vec<u8>, Memory> {
 pub fn file_in(alloc: Global, word: &str) -> Result<Vec<u8>, Memory> {
     match word {
         "empty" => Ok(Vec::new(alloc)),
-        "zeros" => repeated(alloc, 0, 40),
-        "ten" => Ok(Vec::from_slice(alloc, b"ten bytes.")?),
-        "headed" => Ok(Vec::from_slice(alloc, b"KEMUJNL1\0\0\0\0\0\0\0\0O")?),
-        "fresh" => Ok(Vec::from_slice(alloc, b"KEMUJNL1\0\0\0\0\0\0\0\0\0")?),
+        "zeros" => copied(alloc, &[0; 40]),
+        "ten" => copied(alloc, b"ten bytes."),
+        "headed" => copied(alloc, b"KEMUJNL1\0\0\0\0\0\0\0\0O"),
+        "fresh" => copied(alloc, b"KEMUJNL1\0\0\0\0\0\0\0\0\0"),
         "full" => full_file(alloc),
         change => changed(alloc, change),
     }

@@ -1,6 +1,6 @@
 //! Cases of the real disk, in one folder that each case may leave for the next.
 
-use crate::calls::{Call, call_of, done_or_failed};
+use crate::calls::{Call, call_of, done_or_failed, push};
 use crate::fault_files::FaultFiles;
 use basis::Memory;
 use disk::{Disk, FileDisk, LockFile};
@@ -37,13 +37,6 @@ fn is_done<R: Files>(disk: &mut FileDisk<R>, call: &Call<'_>) -> bool {
     }
 }
 
-fn push(text: &mut String, part: &str) -> Result<(), Memory> {
-    match text.push_str(part) {
-        Ok(()) => Ok(()),
-        Err(_) => Err(Memory),
-    }
-}
-
 fn push_call<R: Files>(
     disk: &mut FileDisk<R>,
     word: &str,
@@ -71,20 +64,27 @@ fn push_calls<R: Files>(
     Ok(())
 }
 
+fn calls_made<R: Files>(
+    disk: &mut FileDisk<R>,
+    alloc: Global,
+    calls: &str,
+) -> Result<String, Memory> {
+    let mut text = String::from_str(alloc, "opened")?;
+    match push_calls(disk, calls, &mut text) {
+        Ok(()) => Ok(text),
+        Err(memory) => Err(memory),
+    }
+}
+
 // Opens the disk, and makes the calls.
 fn open_and_call<R: Files>(rt: &R, alloc: Global, calls: &str) -> Result<String, Memory>
 where
     R::File: LockFile,
 {
-    let mut text = String::new(alloc);
     match FileDisk::at(rt, alloc, FOLDER) {
-        Ok(mut disk) => {
-            push(&mut text, "opened")?;
-            push_calls(&mut disk, calls, &mut text)?;
-        }
-        Err(_) => push(&mut text, "not opened")?,
+        Ok(mut disk) => calls_made(&mut disk, alloc, calls),
+        Err(_) => Ok(String::from_str(alloc, "not opened")?),
     }
-    Ok(text)
 }
 
 // Opens the disk again while it is open, and once more when it isn't.

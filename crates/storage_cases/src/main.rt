@@ -9,7 +9,8 @@ mod memory;
 mod store;
 mod streams;
 
-use basis::Memory;
+use minor_version::Memory;
+use std::io;
 
 fn answer(rt: &HostRuntime, question: &str, rest: &str) -> Result<String, Memory> {
     let alloc = rt.alloc();
@@ -27,13 +28,16 @@ fn answer(rt: &HostRuntime, question: &str, rest: &str) -> Result<String, Memory
     }
 }
 
+fn answer_line(rt: &HostRuntime, line: &str) -> anyhow::Result<()> {
+    let (question, rest) = line.split_once(' ').unwrap_or((line, ""));
+    let answered = answer(rt, question, rest)?;
+    println!(rt; "{line}: {answered}")?;
+    Ok(())
+}
+
 fn main(rt: HostRuntime) -> anyhow::Result<()> {
     for line in rt.lines(rt.alloc()) {
-        let line = line?;
-        let line = line.as_str();
-        let (question, rest) = line.split_once(' ').unwrap_or((line, ""));
-        let answered = answer(&rt, question, rest)?;
-        println!(rt; "{line}: {}", answered.as_str())?;
+        answer_line(&rt, line?.as_str())?;
     }
     Ok(())
 }

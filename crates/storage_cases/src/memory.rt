@@ -2,11 +2,18 @@
 ghost use Rattle.std.specs.Prelude.{◌≡◌, length};
 ghost use Rattle.disk.specs.MemDisk.{mem_held};
 
-use crate::calls::{Call, call_of, done_or_failed, number_at};
+use crate::calls::{Call, call_of, done_or_failed, number_at, push};
 use basis::Memory;
 use disk::{Disk, FailList, File, MemDisk};
 use minor_version::Blob;
 use std::alloc::Global;
+
+// A disk with this choice and left file, and an empty right one.
+fn disk_with(alloc: Global, choice: Blob, left: Blob, fails: &[u64]) -> Result<MemDisk, Memory> {
+    let right = Blob::copy(alloc, b"")?;
+    let fail = FailList::new(alloc, fails)?;
+    Ok(MemDisk::new(alloc, choice, left, right, fail))
+}
 
 pub fn disk_of(
     alloc: Global,
@@ -16,9 +23,7 @@ pub fn disk_of(
 ) -> Result<MemDisk, Memory> {
     let choice = Blob::copy(alloc, choice)?;
     let left = Blob::copy(alloc, left)?;
-    let right = Blob::copy(alloc, b"")?;
-    let fail = FailList::new(alloc, fails)?;
-    Ok(MemDisk::new(alloc, choice, left, right, fail))
+    disk_with(alloc, choice, left, fails)
 }
 
 fn start(alloc: Global, fails: &str) -> Result<MemDisk, Memory> {
@@ -78,22 +83,15 @@ fn is_done_as_told(disk: &mut MemDisk, word: &str) -> bool {
     }
 }
 
-fn push(text: &mut String, part: &str) -> Result<(), Memory> {
-    match text.push_str(part) {
-        Ok(()) => Ok(()),
-        Err(_) => Err(Memory),
-    }
+fn push_call(disk: &mut MemDisk, word: &str, text: &mut String) -> Result<(), Memory> {
+    push(text, done_or_failed(is_done_as_told(disk, word)))?;
+    push(text, " ")
 }
 
 // What becomes of each call.
 fn push_calls(disk: &mut MemDisk, calls: &str, text: &mut String) -> Result<(), Memory> {
     for word in calls.split(' ') {
-        let done = done_or_failed(is_done_as_told(disk, word));
-        match push(text, done) {
-            Ok(()) => {}
-            Err(memory) => return Err(memory),
-        }
-        match push(text, " ") {
+        match push_call(disk, word, text) {
             Ok(()) => {}
             Err(memory) => return Err(memory),
         }
@@ -116,8 +114,10 @@ fn push_stop(disk: &MemDisk, t: u64, pick: u64, text: &mut String) -> Result<(),
     if disk.moment() < t {
         return Ok(());
     }
-    let stopped = disk.after_stop(t, pick)?;
-    push_files(&stopped, text)
+    match disk.after_stop(t, pick) {
+        Ok(stopped) => push_files(&stopped, text),
+        Err(memory) => Err(memory),
+    }
 }
 
 fn push_stops(disk: &MemDisk, pick: u64, text: &mut String) -> Result<(), Memory> {
@@ -130,33 +130,54 @@ fn push_stops(disk: &MemDisk, pick: u64, text: &mut String) -> Result<(), Memory
     Ok(())
 }
 
+fn push_calls_and_files(disk: &mut MemDisk, calls: &str, text: &mut String) -> Result<(), Memory> {
+    push_calls(disk, calls, text)?;
+    disk.pass();
+    push_files(disk, text)
+}
+
 fn make_calls(alloc: Global, disk: &mut MemDisk, calls: &str) -> Result<String, Memory> {
     let mut text = String::new(alloc);
-    push_calls(disk, calls, &mut text)?;
-    disk.pass();
-    push_files(disk, &mut text)?;
-    Ok(text)
+    match push_calls_and_files(disk, calls, &mut text) {
+        Ok(()) => Ok(text),
+        Err(memory) => Err(memory),
+    }
 }
 
 /// What becomes of each call where those with these numbers fail, and what the files hold then.
 pub fn answers(alloc: Global, case: &str) -> Result<String, Memory> {
     let (fails, calls) = case.split_once(' ').unwrap_or((case, ""));
-    let mut disk = start(alloc, fails)?;
-    make_calls(alloc, &mut disk, calls)
+    match start(alloc, fails) {
+        Ok(mut disk) => make_calls(alloc, &mut disk, calls),
+        Err(memory) => Err(memory),
+    }
+}
+
+fn push_stops_after(
+    disk: &mut MemDisk,
+    pick: u64,
+    calls: &str,
+    text: &mut String,
+) -> Result<(), Memory> {
+    push_calls(disk, calls, text)?;
+    text.clear();
+    push_stops(disk, pick, text)
 }
 
 fn stop_after(alloc: Global, disk: &mut MemDisk, pick: u64, calls: &str) -> Result<String, Memory> {
     let mut text = String::new(alloc);
-    push_calls(disk, calls, &mut text)?;
-    text.clear();
-    push_stops(disk, pick, &mut text)?;
-    Ok(text)
+    match push_stops_after(disk, pick, calls, &mut text) {
+        Ok(()) => Ok(text),
+        Err(memory) => Err(memory),
+    }
 }
 
 /// What a stop leaves at each moment of the calls, for a pick.
 pub fn stops(alloc: Global, case: &str) -> Result<String, Memory> {
     let (pick, rest) = case.split_once(' ').unwrap_or((case, ""));
     let (fails, calls) = rest.split_once(' ').unwrap_or((rest, ""));
-    let mut disk = start(alloc, fails)?;
-    stop_after(alloc, &mut disk, pick.parse::<u64>().unwrap_or(0), calls)
+    match start(alloc, fails) {
+        Ok(mut disk) => stop_after(alloc, &mut disk, number_at(pick, 0), calls),
+        Err(memory) => Err(memory),
+    }
 }

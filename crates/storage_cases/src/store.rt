@@ -6,12 +6,12 @@ ghost use Rattle.object_journal.specs.Payload.{HasShortTexts};
 ghost use Rattle.object_store.specs.Stores.{HasEntries};
 
 use crate::bytes::{BODY, blanks, file_in, file_of_a_put};
-use crate::calls::number_at;
+use crate::calls::{number_at, push};
 use crate::memory::disk_of;
 use basis::Memory;
 use disk::{File, MemDisk};
 use minor_version::{Blob, Text};
-use object_journal::{Change, Entries, Key, OpenFault, open_journal};
+use object_journal::{Change, Entries, Journal, Key, OpenFault, open_journal};
 use object_store::{ReadyFault, Store, open_store};
 use std::alloc::Global;
 
@@ -48,19 +48,23 @@ fn first_body(entries: &Entries) -> usize {
     }
 }
 
+fn told_of_journal(alloc: Global, journal: &Journal, entries: &Entries) -> Result<String, Memory> {
+    let count = entries.items().len();
+    let revision = journal.revision();
+    let body = first_body(entries);
+    Ok(format!(in alloc; "{count} at {revision}, first body of {body}")?)
+}
+
+fn told_of_fault(alloc: Global, fault: &OpenFault) -> Result<String, Memory> {
+    let name = name_of(fault);
+    let at = place_of(fault);
+    Ok(format!(in alloc; "{name} at {at}")?)
+}
+
 fn opened(alloc: Global, disk: &mut MemDisk) -> Result<String, Memory> {
     match open_journal(alloc, disk) {
-        Ok((journal, entries)) => {
-            let count = entries.items().len();
-            let revision = journal.revision();
-            let body = first_body(&entries);
-            Ok(format!(in alloc; "{count} at {revision}, first body of {body}")?)
-        }
-        Err(fault) => {
-            let name = name_of(&fault);
-            let at = place_of(&fault);
-            Ok(format!(in alloc; "{name} at {at}")?)
-        }
+        Ok((journal, entries)) => told_of_journal(alloc, &journal, &entries),
+        Err(fault) => told_of_fault(alloc, &fault),
     }
 }
 
@@ -77,19 +81,33 @@ fn kind_of(bytes: &[u8], old: &[u8]) -> &'static str {
     }
 }
 
-fn opened_and_left(alloc: Global, disk: &mut MemDisk, old: &[u8]) -> Result<String, Memory> {
-    let answer = opened(alloc, disk)?;
+// What is answered, and what is left of a file that was this.
+fn with_left(alloc: Global, answer: &str, disk: &MemDisk, old: &[u8]) -> Result<String, Memory> {
     let kind = kind_of(disk.held_bytes(File::Left), old);
-    let answer = answer.as_str();
     Ok(format!(in alloc; "{answer}; {kind}")?)
+}
+
+fn opened_and_left(alloc: Global, disk: &mut MemDisk, old: &[u8]) -> Result<String, Memory> {
+    match opened(alloc, disk) {
+        Ok(answer) => with_left(alloc, answer.as_str(), disk, old),
+        Err(memory) => Err(memory),
+    }
+}
+
+fn journal_of(alloc: Global, fails: &str, file: &[u8]) -> Result<String, Memory> {
+    match disk_of(alloc, b"", file, &[number_at(fails, 0)]) {
+        Ok(mut disk) => opened_and_left(alloc, &mut disk, file),
+        Err(memory) => Err(memory),
+    }
 }
 
 /// What an opening of the journal gives where the call with this number fails, and what is left of the file.
 pub fn journal(alloc: Global, case: &str) -> Result<String, Memory> {
     let (fails, word) = case.split_once(' ').unwrap_or((case, ""));
-    let file = file_in(alloc, word)?;
-    let mut disk = disk_of(alloc, b"", file.as_slice(), &[number_at(fails, 0)])?;
-    opened_and_left(alloc, &mut disk, file.as_slice())
+    match file_in(alloc, word) {
+        Ok(file) => journal_of(alloc, fails, file.as_slice()),
+        Err(memory) => Err(memory),
+    }
 }
 
 fn has_short_texts(key: &Key) -> bool
@@ -101,21 +119,33 @@ fn has_short_texts(key: &Key) -> bool
         && key.name.bytes().len() <= 65535
 }
 
+fn texts(alloc: Global, one: &str, other: &str) -> Result<(Text, Text), Memory> {
+    let one = Text::from_str(alloc, one)?;
+    let other = Text::from_str(alloc, other)?;
+    Ok((one, other))
+}
+
 fn key_of(alloc: Global, name: &str) -> Result<Key, Memory> {
+    let (group, resource) = texts(alloc, "demo.example", "widgets")?;
+    let (namespace, name) = texts(alloc, "default", name)?;
     Ok(Key {
-        group: Text::from_str(alloc, "demo.example")?,
-        resource: Text::from_str(alloc, "widgets")?,
-        namespace: Text::from_str(alloc, "default")?,
-        name: Text::from_str(alloc, name)?,
+        group,
+        resource,
+        namespace,
+        name,
     })
 }
 
 fn widget(alloc: Global, name: &str) -> Option<Key>
     ensures { IfSome result HasShortTexts }
 {
-    match key_of(alloc, name) {
-        Ok(key) if has_short_texts(&key) => Some(key),
-        _ => None,
+    let Ok(key) = key_of(alloc, name) else {
+        return None;
+    };
+    if has_short_texts(&key) {
+        Some(key)
+    } else {
+        None
     }
 }
 
@@ -200,16 +230,18 @@ fn open_and_put(alloc: Global, disk: &mut MemDisk) -> Result<String, Memory> {
 }
 
 fn put_and_left(alloc: Global, disk: &mut MemDisk) -> Result<String, Memory> {
-    let answer = open_and_put(alloc, disk)?;
-    let kind = kind_of(disk.held_bytes(File::Left), b"");
-    let answer = answer.as_str();
-    Ok(format!(in alloc; "{answer}; {kind}")?)
+    match open_and_put(alloc, disk) {
+        Ok(answer) => with_left(alloc, answer.as_str(), disk, b""),
+        Err(memory) => Err(memory),
+    }
 }
 
 /// What becomes of a put into a fresh store where the call with this number fails.
 pub fn put_answer(alloc: Global, case: &str) -> Result<String, Memory> {
-    let mut disk = disk_of(alloc, b"", b"", &[number_at(case, 0)])?;
-    put_and_left(alloc, &mut disk)
+    match disk_of(alloc, b"", b"", &[number_at(case, 0)]) {
+        Ok(mut disk) => put_and_left(alloc, &mut disk),
+        Err(memory) => Err(memory),
+    }
 }
 
 fn records(alloc: Global, disk: &mut MemDisk) -> &'static str {
@@ -241,27 +273,37 @@ fn push_records_left(
     text: &mut String,
 ) -> Result<(), Memory> {
     for t in 0..disk.moment().saturating_add(1) {
-        match text.push_str(records_left(alloc, disk, t, pick)) {
+        match push(text, records_left(alloc, disk, t, pick)) {
             Ok(()) => {}
-            Err(_) => return Err(Memory),
+            Err(memory) => return Err(memory),
         }
     }
     Ok(())
 }
 
-fn records_of_put(alloc: Global, disk: &mut MemDisk, pick: u64) -> Result<String, Memory> {
-    let _ = open_and_put(alloc, disk)?;
+fn records_after(alloc: Global, disk: &MemDisk, pick: u64) -> Result<String, Memory> {
     let mut text = String::new(alloc);
-    push_records_left(alloc, disk, pick, &mut text)?;
-    Ok(text)
+    match push_records_left(alloc, disk, pick, &mut text) {
+        Ok(()) => Ok(text),
+        Err(memory) => Err(memory),
+    }
+}
+
+fn records_of_put(alloc: Global, disk: &mut MemDisk, pick: u64) -> Result<String, Memory> {
+    match open_and_put(alloc, disk) {
+        Ok(_) => records_after(alloc, disk, pick),
+        Err(memory) => Err(memory),
+    }
 }
 
 /// How many records a stop leaves at each moment of a put into a fresh store, for a pick, where the call with this number
 /// fails: a digit for each moment.
 pub fn records_after_stops(alloc: Global, case: &str) -> Result<String, Memory> {
     let (pick, fails) = case.split_once(' ').unwrap_or((case, ""));
-    let mut disk = disk_of(alloc, b"", b"", &[number_at(fails, 0)])?;
-    records_of_put(alloc, &mut disk, number_at(pick, 0))
+    match disk_of(alloc, b"", b"", &[number_at(fails, 0)]) {
+        Ok(mut disk) => records_of_put(alloc, &mut disk, number_at(pick, 0)),
+        Err(memory) => Err(memory),
+    }
 }
 
 fn ready_answer(alloc: Global, store: &mut Store, body: Blob) -> &'static str
@@ -285,14 +327,34 @@ fn ready_on(alloc: Global, disk: &mut MemDisk, body: Blob) -> &'static str {
     }
 }
 
+fn body_of(alloc: Global, count: usize) -> Result<Blob, Memory> {
+    match blanks(alloc, count) {
+        Ok(bytes) => Blob::copy(alloc, bytes.as_slice()),
+        Err(memory) => Err(memory),
+    }
+}
+
+fn ready_in(alloc: Global, file: &[u8], body: Blob) -> Result<String, Memory> {
+    match disk_of(alloc, b"", file, &[]) {
+        Ok(mut disk) => Ok(String::from_str(alloc, ready_on(alloc, &mut disk, body))?),
+        Err(memory) => Err(memory),
+    }
+}
+
+fn ready_with(alloc: Global, file: &[u8], count: &str) -> Result<String, Memory> {
+    match body_of(alloc, count.parse::<usize>().unwrap_or(0)) {
+        Ok(body) => ready_in(alloc, file, body),
+        Err(memory) => Err(memory),
+    }
+}
+
 /// Whether a put of so many blanks is ready in the store of the file.
 pub fn refusal_answer(alloc: Global, case: &str) -> Result<String, Memory> {
     let (word, count) = case.split_once(' ').unwrap_or((case, ""));
-    let file = file_in(alloc, word)?;
-    let body = blanks(alloc, count.parse::<usize>().unwrap_or(0))?;
-    let body = Blob::copy(alloc, body.as_slice())?;
-    let mut disk = disk_of(alloc, b"", file.as_slice(), &[])?;
-    Ok(String::from_str(alloc, ready_on(alloc, &mut disk, body))?)
+    match file_in(alloc, word) {
+        Ok(file) => ready_with(alloc, file.as_slice(), count),
+        Err(memory) => Err(memory),
+    }
 }
 
 // Puts a held key, removes another and puts a new one. Tells whether the disk did all.
@@ -322,9 +384,17 @@ fn changes_on(alloc: Global, disk: &mut MemDisk) -> Result<String, Memory> {
     }
 }
 
+fn changes_in(alloc: Global, file: &[u8]) -> Result<String, Memory> {
+    match disk_of(alloc, b"", file, &[]) {
+        Ok(mut disk) => changes_on(alloc, &mut disk),
+        Err(memory) => Err(memory),
+    }
+}
+
 /// What the store of the file holds after a put of a held key, a removal and a put of a new key.
 pub fn changes_answer(alloc: Global, case: &str) -> Result<String, Memory> {
-    let file = file_in(alloc, case)?;
-    let mut disk = disk_of(alloc, b"", file.as_slice(), &[])?;
-    changes_on(alloc, &mut disk)
+    match file_in(alloc, case) {
+        Ok(file) => changes_in(alloc, file.as_slice()),
+        Err(memory) => Err(memory),
+    }
 }
