@@ -1,5 +1,5 @@
 -- Versions of one resource spell the same fields.
-use Rattle.std.proofs.Common.{◌≡◌, ◌&&◌, ℕ, Bool, true, List, [], ◌∷◌, Option, Some, None, option_map, option_and_then, find, map, Contains, refl, sym, ◌∙◌, ap, subst, bytes_eq}
+use Rattle.std.proofs.Common.{◌≡◌, ◌&&◌, ℕ, Bool, true, List, Option, Some, None, option_map, option_and_then, find, Contains, refl, sym, ◌∙◌, ap, subst, bytes_eq}
 use Rattle.std.proofs.lemmas.Bool.{and_parts}
 use Rattle.std.proofs.lemmas.Slice.Eq.{bytes_eq-Decides}
 use Rattle.fields.specs.Fits.{AreOfSameFields}

@@ -84,7 +84,8 @@ fn fields_of(alloc: Global, table: &VersionTable, json: &Value) -> Result<Fields
 
 /// The object in the version `to` of its resource.
 fn converted(alloc: Global, view: &View, json: Value, to: &str) -> Result<Value, ConvertFault>
-    ensures ok { IfOk result (λ v. IsConverted view.now.versions (tree_of json) to.now (tree_of v)) }
+    ensures ok { IfOk result
+        (λ v. IsConverted view.now.versions (tree_of json) to.now (tree_of v)) }
     ensures no_float { IfOk result (λ v. has_float (tree_of v) ≡ false) }
     ensures fault { IfErr result (IsTreeFault view.now.versions (tree_of json) to.now) }
 {
@@ -102,9 +103,9 @@ fn converted(alloc: Global, view: &View, json: Value, to: &str) -> Result<Value,
     Ok(whole_object(alloc, target, to, &fields, metadata)?)
 }
 
-/// The object whose text is given, in the version `to` of its resource, both versions by the release that is viewed. The
-/// object is read as a stored one: an absent field stays absent, and members that the version doesn't know are left out.
-/// Its metadata is copied as it is.
+/// The object whose text is given, in the version `to` of its resource, both versions by the release that is viewed.
+/// The object is read as a stored one: an absent field stays absent, and members that the version doesn't know are
+/// left out. Its metadata is copied as it is.
 pub fn convert(alloc: Global, view: &View, object: &str, to: &str) -> Result<Value, ConvertFault>
     ensures ok { IfOk result (λ v. Converts view.now.versions object.now to.now (tree_of v)) }
     ensures no_float { IfOk result (λ v. has_float (tree_of v) ≡ false) }
