@@ -9,7 +9,8 @@ use Rattle.release_view.specs.declared.served.ServedVersion.{ServedVersion}
 -- no group stands before an earlier one
 abbrev pub GroupsRise : List ServedVersion → Type 0
 GroupsRise [] = Unit {0}
-GroupsRise (x ∷ xs) = AllByRecursion (λ y. slice_cmp nat_cmp x.group y.group ≢ Greater) xs × GroupsRise xs
+GroupsRise (x ∷ xs) =
+    AllByRecursion (λ y. slice_cmp nat_cmp x.group y.group ≢ Greater) xs × GroupsRise xs
 
 -- all are of the group
 abbrev pub AreIn : List ℕ → List ServedVersion → Type 0

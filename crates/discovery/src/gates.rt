@@ -51,12 +51,8 @@ fn metric_lines(alloc: Global, rows: &[GateRow]) -> Result<String, Memory>
 {
     let mut text = String::new(alloc);
     for row in rows {
-        let Ok(line) = metric_line(alloc, row) else {
-            return Err(Memory);
-        };
-        let Ok(()) = text.push_str(line.as_str()) else {
-            return Err(Memory);
-        };
+        let line = metric_line(alloc, row)?;
+        text.push_str(line.as_str())?;
     }
     Ok(text)
 }

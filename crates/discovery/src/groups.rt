@@ -37,10 +37,7 @@ fn versions_in<'a>(
             continue;
         }
         last = Some(&version.version);
-        match versions.push(&version.version) {
-            Ok(()) => {}
-            Err(_) => return Err(Memory),
-        }
+        versions.push(&version.version)?;
     }
     Ok(versions)
 }
@@ -68,7 +65,8 @@ fn version_values(alloc: Global, group: &Text, versions: &[&Text]) -> Result<Vec
 
 // The first version is preferred.
 fn preferred_value(alloc: Global, group: &Text, versions: &[&Text]) -> Result<Value, AllocError>
-    ensures { IfOk result (λ v. tree_of v ≡ preferred_tree group.now (map (λ w. w.now) versions.now)) }
+    ensures { IfOk result
+        (λ v. tree_of v ≡ preferred_tree group.now (map (λ w. w.now) versions.now)) }
 {
     match versions {
         [first, ..] => version_value(alloc, group, first),
@@ -91,11 +89,15 @@ fn single_value(alloc: Global, group: &Text, versions: &[&Text]) -> Result<Value
     let values = version_values(alloc, group, versions)?;
     let preferred = preferred_value(alloc, group, versions)?;
     let name = group.as_str();
-    json!(in alloc; {"apiVersion": "v1", "kind": "APIGroup", "name": name, "preferredVersion": preferred, "versions": values})
+    json!(in alloc; {
+        "apiVersion": "v1", "kind": "APIGroup", "name": name,
+        "preferredVersion": preferred, "versions": values
+    })
 }
 
 fn listed_value(alloc: Global, group: &Text, served: &[ServedVersion]) -> Result<Value, Memory>
-    ensures { IfOk result (λ v. tree_of v ≡ group_tree group.now (versions_in served.now group.now)) }
+    ensures { IfOk result
+        (λ v. tree_of v ≡ group_tree group.now (versions_in served.now group.now)) }
 {
     let versions = versions_in(alloc, served, group)?;
     let value = group_value(alloc, group, versions.as_slice())?;
@@ -131,14 +133,8 @@ fn group_values(alloc: Global, served: &[ServedVersion]) -> Result<Vec<Value>, M
         if first.group.bytes().is_empty() {
             continue;
         }
-        let value = match listed_value(alloc, &first.group, own) {
-            Ok(value) => value,
-            Err(Memory) => return Err(Memory),
-        };
-        match values.push(value) {
-            Ok(()) => {}
-            Err(_) => return Err(Memory),
-        }
+        let value = listed_value(alloc, &first.group, own)?;
+        values.push(value)?;
     }
     Ok(values)
 }

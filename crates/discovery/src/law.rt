@@ -4,8 +4,8 @@ ghost use Rattle.discovery.specs.Laws.{AreListed, ListsInOrder, ListsGates};
 
 use release_view::{View, view_is_kept};
 
-/// The documents list exactly the groups with a served version, but the core group, each once and in order of bytes, and
-/// of each group exactly its served versions.
+/// The documents list exactly the groups with a served version, but the core group, each once and in order of bytes,
+/// and of each group exactly its served versions.
 pub fn groups_are_exact(view: &View)
     ensures { AreListed (served_of view.now.versions) }
 {

@@ -24,7 +24,10 @@ fn resource_value(alloc: Global, resource: &ServedVersion) -> Result<Value, Allo
     let name = resource.resource.as_str();
     let namespaced = resource.namespaced;
     let singular = resource.singular.as_str();
-    json!(in alloc; {"kind": kind, "name": name, "namespaced": namespaced, "singularName": singular, "verbs": ["create", "delete", "get", "list", "update"]})
+    json!(in alloc; {
+        "kind": kind, "name": name, "namespaced": namespaced, "singularName": singular,
+        "verbs": ["create", "delete", "get", "list", "update"]
+    })
 }
 
 fn resource_values(
@@ -42,13 +45,8 @@ fn resource_values(
         if !is_of(resource, group, version) {
             continue;
         }
-        let Ok(value) = resource_value(alloc, resource) else {
-            return Err(Memory);
-        };
-        match values.push(value) {
-            Ok(()) => {}
-            Err(_) => return Err(Memory),
-        }
+        let value = resource_value(alloc, resource)?;
+        values.push(value)?;
     }
     Ok(values)
 }
@@ -59,10 +57,14 @@ fn resources_value(
     version: &Text,
     resources: Vec<Value>,
 ) -> Result<Value, AllocError>
-    ensures { IfOk result (λ v. tree_of v ≡ resources_tree group.now version.now (map tree_of resources.items)) }
+    ensures { IfOk result
+        (λ v. tree_of v ≡ resources_tree group.now version.now (map tree_of resources.items)) }
 {
     let both = group_version(alloc, group, version)?;
-    json!(in alloc; {"apiVersion": "v1", "groupVersion": both, "kind": "APIResourceList", "resources": resources})
+    json!(in alloc; {
+        "apiVersion": "v1", "groupVersion": both, "kind": "APIResourceList",
+        "resources": resources
+    })
 }
 
 fn first_of<'a>(
@@ -83,7 +85,8 @@ fn resources_among(
     group: &[u8],
     version: &[u8],
 ) -> Result<Option<Value>, Memory>
-    ensures { IfOk result (λ o. option_map tree_of o ≡ resources_among served.now group.now version.now) }
+    ensures { IfOk result
+        (λ o. option_map tree_of o ≡ resources_among served.now group.now version.now) }
 {
     let Some(first) = first_of(served, group, version) else {
         return Ok(None);
@@ -100,7 +103,8 @@ pub fn resource_list(
     group: &[u8],
     version: &[u8],
 ) -> Result<Option<Value>, Memory>
-    ensures page { IfOk result (λ o. option_map tree_of o ≡ resource_list_page view.now group.now version.now) }
+    ensures page { IfOk result
+        (λ o. option_map tree_of o ≡ resource_list_page view.now group.now version.now) }
     ensures no_float { IfOk result (λ o. IfSome o (λ v. has_float (tree_of v) ≡ false)) }
 {
     resources_among(alloc, view.served(), group, version)

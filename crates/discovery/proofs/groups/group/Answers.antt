@@ -1,4 +1,4 @@
-use Rattle.std.proofs.Common.{◌≡◌, false, Option, IfSome}
+use Rattle.std.proofs.Common.{◌≡◌, false, IfSome}
 use Rattle.std.specs.Prelude.{option_map}
 use Rattle.serde_json.specs.View.{view as tree_of}
 use Rattle.serde_json.specs.Written.{has_float}

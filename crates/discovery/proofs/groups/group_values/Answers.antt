@@ -22,11 +22,11 @@ loop-rest-preserved c =
     (record { some = begins c.loop-rest.rest.now c.first-item.result some c.first-item.is; joined = c.split_group.ensures.joined; all_in = c.split_group.ensures.own; next = c.split_group.ensures.next }) in
     let named : is_core c.first-item.result.group ≡ false = ap is_core (sym c.bytes.ensures) ∙ sym c.if-is_empty.ensures in
     let others = group_trees c.split_group.result.1.now in
-    let pushed : map tree_of c.push.new.self.items ≡ map tree_of c.loop-rest.values.items ++ tree_of c.in-Ok.value ∷ [] =
-    ap (map tree_of) c.in-Ok-push.ensures.items ∙ map-append tree_of c.loop-rest.values.items (c.in-Ok.value ∷ []) in (
+    let pushed : map tree_of c.push.new.self.items ≡ map tree_of c.loop-rest.values.items ++ tree_of c.in_ok-value.value ∷ [] =
+    ap (map tree_of) c.in_ok-push.ensures.items ∙ map-append tree_of c.loop-rest.values.items (c.in_ok-value.value ∷ []) in (
       s.rises,
       ap (λ ts. ts ++ others) pushed
-          ∙ append_assoc (map tree_of c.loop-rest.values.items) (tree_of c.in-Ok.value ∷ []) others
-          ∙ ap (λ ts. map tree_of c.loop-rest.values.items ++ ts) (ap (λ t. t ∷ others) c.in-Ok.ensures ∙ sym (s.listed named))
+          ∙ append_assoc (map tree_of c.loop-rest.values.items) (tree_of c.in_ok-value.value ∷ []) others
+          ∙ ap (λ ts. map tree_of c.loop-rest.values.items ++ ts) (ap (λ t. t ∷ others) c.in_ok-value.ensures ∙ sym (s.listed named))
           ∙ c.loop-rest.invariant.1,
     )

@@ -19,6 +19,6 @@ loop-version-preserved-then-ne c =
 pub loop-version-preserved : goal.loop-version-preserved
 loop-version-preserved c =
     let pushed : map (λ w. w.now) c.push.new.self.items ≡ map (λ w. w.now) c.loop-version.versions.items ++ c.version-item.result.version ∷ [] =
-    ap (map (λ w. w.now)) c.in-Ok.ensures.items ∙ map-append (λ w. w.now) c.loop-version.versions.items _ in
+    ap (map (λ w. w.now)) c.in_ok-push.ensures.items ∙ map-append (λ w. w.now) c.loop-version.versions.items _ in
     rw (take_more c.args.served.now c.loop-version.version-index c.version-item.result c.loop-version-test.true, ← c.version-item.is, pushed)
     (versions_more _ c.version-item.result c.args.group.now _ (option_copied c.loop-version.last) (unnot (bytes_eq c.version-item.result.group c.args.group.now) c.if-ne.ensures) (sym c.if-is_last.ensures) c.loop-version.invariant)
