@@ -1,4 +1,3 @@
-pub mod ViewLemmas
 pub mod WordLemmas
 pub mod TopLemmas
 pub mod RangeLemmas

@@ -1,10 +1,9 @@
 -- Words and bytes have one answer.
-use Rattle.std.proofs.Common.{◌≡◌, ◌≢◌, ◌≤◌, ◌⊎◌, inl, inr, ℕ, Bool, true, false, List, [], ◌∷◌, ◌++◌, Option, Some, None, refl, sym, ◌∙◌, ap, subst, arith}
+use Rattle.std.proofs.Common.{◌≡◌, ◌≤◌, inl, inr, ℕ, true, false, List, [], ◌∷◌, ◌++◌, Option, Some, None, refl, sym, ◌∙◌, ap, subst, arith}
 use Rattle.std.specs.Prelude.{codes, unwrap_or, IfSome}
 use Rattle.std.specs.Str.{bytes_eq}
 use Rattle.std.proofs.lemmas.Slice.Eq.{bytes_eq-Decides}
 use Rattle.serde_json.specs.Written.{compact_text}
-use Rattle.discovery.specs.Groups.{group_list_page}
 use Rattle.flag_text.specs.Pieces.{pieces}
 use Rattle.gate_flags.proofs.AnswerLemmas.{one_fault as one_gate_fault, either as no_gate_fault}
 use Rattle.gate_flags.proofs.CutLemmas.{values_one}
@@ -13,20 +12,19 @@ use Rattle.gate_flags.specs.declared.fault.GateFault.TheVariants as gate_fault
 use Rattle.gate_spec.specs.Gates.{RisesInDate, cutoff as gate_cutoff}
 use Rattle.history_reader.proofs.LawLemmas.{one_history, means_or_is_refused, one_fault as one_reading_fault}
 use Rattle.history_reader.proofs.ShapeLemmas.{meaning_is_shaped}
-use Rattle.history_reader.specs.Meaning.{MeansHistory}
 use Rattle.object_convert.proofs.AnswerLemmas.{one_answer as one_conversion}
-use Rattle.release_view.proofs.ViewLemmas.{one_view}
-use Rattle.release_view.specs.Views.{Viewed, IsViewOf, IsDefaultView}
-use Rattle.runtime_config.proofs.AnswerLemmas.{one_set, one_fault as one_config_fault, either as no_config_fault}
+use Rattle.release_view.proofs.ViewLemmas.{one_by_texts}
+use Rattle.release_view.specs.Views.{Viewed}
+use Rattle.runtime_config.proofs.AnswerLemmas.{one_fault as one_config_fault, either as no_config_fault}
 use Rattle.schemas.proofs.JoinLemmas.{accepted_unbroken}
 use Rattle.schemas.proofs.LawLemmas.{gates_rise, no_first_fault, one_first_fault}
 use Rattle.schemas.specs.Dated.{Dated, IsShaped}
 use Rattle.schemas.specs.Rules.{IsAccepted, checks, first_of, last_of}
 use Rattle.schemas.specs.Shapes.{IsMinor}
-use Rattle.emu_server.specs.Answer.{IsAnswerOn, IsAnswerTo, IsAnswer}
+use Rattle.emu_server.specs.Answer.{IsAnswerOn, IsAnswerTo}
 use Rattle.emu_server.specs.Commands.{AsksFor, IsWork}
 use Rattle.emu_server.specs.Convert.{convert_fault_line, IsConversionAt, IsConversionBy}
-use Rattle.emu_server.specs.Discover.{config_fault_line, IsGroupListLine, IsListingAt}
+use Rattle.emu_server.specs.Discover.{config_fault_line, group_list_text, IsGroupListLine, IsListingAt}
 use Rattle.emu_server.specs.Emulated.{version_line, AtRelease}
 use Rattle.emu_server.specs.Gates.{gate_lines, gate_fault_line, IsGateListingAt}
 use Rattle.emu_server.specs.Laws.{AreOne, HasOneAnswer}
@@ -77,11 +75,7 @@ gates_one h features up e s t x y (inr a) (inr b) =
 -- ---- `discover`
 
 list_one : (h : Dated) (e : ℕ) (runtime x y : List ℕ) → IsGroupListLine h e runtime x → IsGroupListLine h e runtime y → x ≡ y
-list_one h e runtime x y a b =
-    let on = one_set h.apis e runtime a.on b.on a.served b.served in
-    let gates = values_one (gate_cutoff h.gates e) (pieces []) a.gates b.gates a.valued b.valued in
-    let viewed = subst (λ g. IsViewOf h e g b.on a.view) gates (subst (λ n. IsViewOf h e a.gates n a.view) on a.viewed) in
-    a.written ∙ ap (λ v. compact_text (group_list_page v) ++ 10 ∷ []) (one_view h e b.gates b.on a.view b.view viewed b.viewed) ∙ sym b.written
+list_one h e runtime x y a b = a.written ∙ ap group_list_text (one_by_texts h e [] runtime a.view b.view a.viewed b.viewed) ∙ sym b.written
 
 listing_one : (h : Dated) (runtime : List ℕ) (e : ℕ) (s t : Status) (x y : List ℕ)
     → IsListingAt h runtime e s x → IsListingAt h runtime e t y → AreOne s t x y
@@ -93,13 +87,6 @@ listing_one h runtime e s t x y (inr a) (inr b) =
     one_of status.Flags a.0 b.0 (a.1.3 ∙ ap config_fault_line same ∙ sym b.1.3)
 
 -- ---- `convert`
-
-default_one : (h : Dated) (e : ℕ) (v w : Viewed) → IsDefaultView h e v → IsDefaultView h e w → v ≡ w
-default_one h e v w a b =
-    let on = one_set h.apis e [] a.on b.on a.served b.served in
-    let gates = values_one (gate_cutoff h.gates e) (pieces []) v.gates w.gates a.valued b.valued in
-    let viewed = subst (λ g. IsViewOf h e g b.on v) gates (subst (λ n. IsViewOf h e v.gates n v) on a.viewed) in
-    one_view h e w.gates b.on v w viewed b.viewed
 
 conversion_by : (view : Viewed) (json to : List ℕ) (s t : Status) (x y : List ℕ)
     → IsConversionBy view json to s x → IsConversionBy view json to t y → AreOne s t x y
@@ -115,7 +102,7 @@ conversion_by view json to s t x y (inr a) (inr b) =
 conversion_one : (h : Dated) (json to : List ℕ) (e : ℕ) (s t : Status) (x y : List ℕ)
     → IsConversionAt h json to e s x → IsConversionAt h json to e t y → AreOne s t x y
 conversion_one h json to e s t x y a b =
-    let same = default_one h e a.0 b.0 a.1 b.1 in
+    let same = one_by_texts h e [] [] a.0 b.0 a.1 b.1 in
     conversion_by b.0 json to s t x y (subst (λ v. IsConversionBy v json to s x) same a.2) b.2
 
 -- ---- the commands

@@ -13,13 +13,14 @@ IsCheckLine words = words ≡ codes "check" ∷ []
 abbrev pub counts_text : Dated → List ℕ
 counts_text h =
     decimal (length h.gates) ++ (codes " gate, " ++ (decimal (length h.apis) ++ (codes " api, "
-    ++ (decimal (length h.fields) ++ (codes " field, " ++ (decimal (length h.spells) ++ codes " spell entries\n"))))))
+    ++ (decimal (length h.fields) ++ (codes " field, "
+    ++ (decimal (length h.spells) ++ codes " spell entries\n"))))))
 
 -- the releases of which an accepted history speaks, and how many entries it has
 abbrev pub accepted_line : Dated → List ℕ
 accepted_line h =
-    codes "accepted "
-    ++ (release_text (first_of h) ++ (codes " to " ++ (release_text (last_of h) ++ (codes ": " ++ counts_text h))))
+    codes "accepted " ++ (release_text (first_of h)
+    ++ (codes " to " ++ (release_text (last_of h) ++ (codes ": " ++ counts_text h))))
 
 -- what `check` is to answer on an accepted history
 abbrev pub IsAcceptance : Dated → Status → List ℕ → Type 0

@@ -26,7 +26,8 @@ IsConvertLine words o =
 abbrev pub convert_fault_line : ConvertFault → List ℕ
 convert_fault_line fault.NotAnObject = codes "object: not a JSON object\n"
 convert_fault_line fault.UnknownVersion = codes "object: unknown version\n"
-convert_fault_line (fault.Bad path cause) = codes "object: " ++ (fault_text path cause ++ codes "\n")
+convert_fault_line (fault.Bad path cause) =
+    codes "object: " ++ (fault_text path cause ++ codes "\n")
 convert_fault_line fault.UnknownTarget = codes "to: unknown version\n"
 convert_fault_line fault.Memory = codes ""
 

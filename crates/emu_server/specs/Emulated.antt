@@ -19,7 +19,8 @@ IsEmulated first last (Some text) e = NamesRelease text e × IsEmulable first la
 abbrev pub IsRefusedVersion : ℕ → ℕ → Option (List ℕ) → VersionFault → Type 0
 IsRefusedVersion first last None f = ⊥
 IsRefusedVersion first last (Some text) NotAVersion = (k : ℕ) → k ≤ 999 → ¬ NamesRelease text k
-IsRefusedVersion first last (Some text) OutOfRange = (k : ℕ) × (k ≤ 999) × NamesRelease text k × ¬ IsEmulable first last k
+IsRefusedVersion first last (Some text) OutOfRange =
+    (k : ℕ) × (k ≤ 999) × NamesRelease text k × ¬ IsEmulable first last k
 
 -- why the release to emulate is refused, for a history from first to last
 abbrev pub version_line : ℕ → ℕ → VersionFault → List ℕ

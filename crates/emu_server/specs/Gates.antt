@@ -20,7 +20,8 @@ use Rattle.emu_server.specs.declared.status.Status.TheVariants as status
 -- the words ask for `gates` with these options
 abbrev pub IsGatesLine : List (List ℕ) → Options → Type 0
 IsGatesLine words o =
-    AsksBoth words (codes "gates") emulated_version feature_gates (text_of o.emulated) (text_of o.features)
+    AsksBoth words (codes "gates") emulated_version feature_gates
+    (text_of o.emulated) (text_of o.features)
 
 -- a stage as `gates` names it
 abbrev pub stage_title : Stage → List ℕ
@@ -36,8 +37,9 @@ bool_word false = codes "false"
 -- a gate that the release knows
 abbrev pub gate_line : GateRow → List ℕ
 gate_line row =
-    row.name ++ (codes " " ++ (stage_title row.stage ++ (codes " default=" ++ (bool_word row.default
-    ++ (codes " locked=" ++ (bool_word row.locked ++ (codes " value=" ++ (bool_word row.value ++ codes "\n"))))))))
+    row.name ++ (codes " " ++ (stage_title row.stage
+    ++ (codes " default=" ++ (bool_word row.default ++ (codes " locked=" ++ (bool_word row.locked
+    ++ (codes " value=" ++ (bool_word row.value ++ codes "\n"))))))))
 
 -- each gate in a line
 abbrev pub gate_lines : List GateRow → List ℕ
@@ -46,7 +48,8 @@ gate_lines rows = flat_map gate_line rows
 -- why a piece of a feature gate text is refused
 abbrev pub gate_fault_line : ℕ → GateCause → List ℕ
 gate_fault_line place cause =
-    codes "feature-gates: piece " ++ (decimal place ++ (codes ": " ++ (cause_name cause ++ codes "\n")))
+    codes "feature-gates: piece "
+    ++ (decimal place ++ (codes ": " ++ (cause_name cause ++ codes "\n")))
 
 -- the release refuses the feature gate text, and this line says why
 abbrev pub IsGateRefusal : Dated → ℕ → List ℕ → List ℕ → Type 0
@@ -68,4 +71,5 @@ IsGateListingAt h features e s text =
 
 -- what `gates` is to answer on an accepted history, where no text stands for the empty one
 abbrev pub IsGateListing : Options → Dated → Status → List ℕ → Type 0
-IsGateListing o h = AtRelease (text_of o.emulated) h (IsGateListingAt h (unwrap_or (text_of o.features) []))
+IsGateListing o h =
+    AtRelease (text_of o.emulated) h (IsGateListingAt h (unwrap_or (text_of o.features) []))

@@ -14,7 +14,8 @@ read_fault_line = codes "read fault\n"
 -- a member of a history document isn't as it must be
 abbrev pub entry_line : Array → ℕ → List ℕ → List ℕ
 entry_line array index name =
-    codes "history: entry " ++ (array_name array ++ (codes " " ++ (decimal index ++ (codes " member " ++ (name ++ codes "\n")))))
+    codes "history: entry " ++ (array_name array
+    ++ (codes " " ++ (decimal index ++ (codes " member " ++ (name ++ codes "\n")))))
 
 -- why bytes are no history document
 abbrev pub reading_line : HistoryFault → List ℕ
@@ -26,4 +27,5 @@ reading_line (fault.BadEntry array index name) = entry_line array index name
 -- a history breaks a rule at an entry
 abbrev pub rule_line : ℕ → Array → ℕ → List ℕ
 rule_line rule array number =
-    codes "history: rule HR" ++ (decimal rule ++ (codes " at " ++ (array_name array ++ (codes " " ++ (decimal number ++ codes "\n")))))
+    codes "history: rule HR" ++ (decimal rule
+    ++ (codes " at " ++ (array_name array ++ (codes " " ++ (decimal number ++ codes "\n")))))

@@ -53,7 +53,8 @@ gives_one names word = list_any (λ name. is_some (behind name word)) names
 
 -- each of the options has the value that the words give it, and they give it at most one
 abbrev pub HaveValues : List Setting → List (List ℕ) → Type 0
-HaveValues options words = AllByRecursion (λ option. values_of option.name words ≡ option_to_list option.value) options
+HaveValues options words =
+    AllByRecursion (λ option. values_of option.name words ≡ option_to_list option.value) options
 
 -- the words give these options, each at most once, in any order
 pub record Gives (words : List (List ℕ)) (options : List Setting) : Type 0 where
@@ -64,7 +65,8 @@ abbrev pub GivesBoth : List (List ℕ) → List ℕ → List ℕ → Option (Lis
 GivesBoth words first second x y = Gives words (setting first x ∷ setting second y ∷ [])
 
 abbrev pub GivesThree :
-    List (List ℕ) → List ℕ → List ℕ → List ℕ → Option (List ℕ) → Option (List ℕ) → Option (List ℕ) → Type 0
+    List (List ℕ) → List ℕ → List ℕ → List ℕ
+    → Option (List ℕ) → Option (List ℕ) → Option (List ℕ) → Type 0
 GivesThree words first second third x y z =
     Gives words (setting first x ∷ setting second y ∷ setting third z ∷ [])
 

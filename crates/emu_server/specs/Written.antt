@@ -10,4 +10,5 @@ use Rattle.outside.specs.Streams.{AppendsFront}
 -- write fault
 abbrev pub IsWritten : Option (List ℕ) → Option (List ℕ) → Status → Status → List ℕ → Type 0
 IsWritten old new result wanted text =
-    ((result ≡ wanted) × Appends old new text) ⊎ ((result ≡ status.WriteFault) × AppendsFront old new text)
+    ((result ≡ wanted) × Appends old new text)
+    ⊎ ((result ≡ status.WriteFault) × AppendsFront old new text)

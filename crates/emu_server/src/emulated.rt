@@ -27,9 +27,11 @@ fn is_emulable(accepted: &Accepted, e: Minor) -> bool
 
 /// The release that the option names, or the last one.
 pub fn emulated_release(emulated: Option<&str>, accepted: &Accepted) -> Result<Minor, VersionFault>
-    ensures ok { IfOk result (IsEmulated (first_of accepted.now) (last_of accepted.now) (text_of emulated.entry)) }
+    ensures ok { IfOk result
+        (IsEmulated (first_of accepted.now) (last_of accepted.now) (text_of emulated.entry)) }
     ensures emulable { IfOk result (IsEmulable (first_of accepted.now) (last_of accepted.now)) }
-    ensures refused { IfErr result (IsRefusedVersion (first_of accepted.now) (last_of accepted.now) (text_of emulated.entry)) }
+    ensures refused { IfErr result
+        (IsRefusedVersion (first_of accepted.now) (last_of accepted.now) (text_of emulated.entry)) }
 {
     let Some(text) = emulated else {
         return Ok(accepted.last());
@@ -45,13 +47,15 @@ pub fn emulated_release(emulated: Option<&str>, accepted: &Accepted) -> Result<M
 }
 
 fn out_of_range(alloc: Global, low: &str, high: &str) -> Result<String, AllocError>
-    ensures { IfOk result (λ s. string_bytes s ≡ codes "emulated-version: out of range " ++ (low.now ++ (codes " to " ++ (high.now ++ codes "\n")))) }
+    ensures { IfOk result (λ s. string_bytes s ≡ codes "emulated-version: out of range "
+        ++ (low.now ++ (codes " to " ++ (high.now ++ codes "\n")))) }
 {
     format!(in alloc; "emulated-version: out of range {low} to {high}\n")
 }
 
 fn version_text(alloc: Global, accepted: &Accepted, fault: VersionFault) -> Result<String, Memory>
-    ensures { IfOk result (λ s. string_bytes s ≡ version_line (first_of accepted.now) (last_of accepted.now) fault) }
+    ensures { IfOk result
+        (λ s. string_bytes s ≡ version_line (first_of accepted.now) (last_of accepted.now) fault) }
 {
     match fault {
         VersionFault::NotAVersion => {
@@ -73,7 +77,8 @@ pub fn version_refusal(
     accepted: &Accepted,
     fault: VersionFault,
 ) -> Result<Answer, Memory>
-    ensures { IfOk result (λ a. (a.status ≡ Status.Flags) × (string_bytes a.text ≡ version_line (first_of accepted.now) (last_of accepted.now) fault)) }
+    ensures { IfOk result (λ a. (a.status ≡ Status.Flags) × (string_bytes a.text
+        ≡ version_line (first_of accepted.now) (last_of accepted.now) fault)) }
 {
     let text = version_text(alloc, accepted, fault)?;
     Ok(Answer::refused_option(text))

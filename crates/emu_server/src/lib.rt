@@ -9,7 +9,6 @@ mod refusals;
 mod run;
 mod status;
 mod taking;
-mod views;
 mod words;
 
 pub use disk::{FailList, Failed};

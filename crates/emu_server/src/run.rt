@@ -18,7 +18,8 @@ use std::alloc::Global;
 /// Writes a text, and ends with a status.
 fn end_with<K: Sink>(out: &mut K, text: &[u8], status: Status) -> Status
     ensures written { IsWritten (K.written out.old) (K.written out.new) result status text.now }
-    ensures fault { result ≡ Status.WriteFault → (status ≡ Status.WriteFault) ⊎ Rose (K.faults out.old) (K.faults out.new) }
+    ensures fault { result ≡ Status.WriteFault →
+        (status ≡ Status.WriteFault) ⊎ Rose (K.faults out.old) (K.faults out.new) }
     ensures fine { (result ≡ Status.WriteFault) ⊎ (K.faults out.new ≡ K.faults out.old) }
     ensures later { K.faults out.old ≤ K.faults out.new }
 {
@@ -38,17 +39,23 @@ pub fn run_plain<S: Source, K: Sink>(
     out: &mut K,
 ) -> Status
     // The end is right for the bytes of the history: those that were left in the source, where it tells them.
-    ensures ends { (bytes : List ℕ) × Keeps (S.left history.old) (Some bytes) × IsEnd (texts_of words.now) bytes (Rose (S.faults history.old) (S.faults history.new)) result (K.written out.old) (K.written out.new) }
+    ensures ends { (bytes : List ℕ) × Keeps (S.left history.old) (Some bytes)
+        × IsEnd (texts_of words.now) bytes (Rose (S.faults history.old) (S.faults history.new))
+        result (K.written out.old) (K.written out.new) }
 
-    // At Ok the source was read to its end, at words of no command not at all, and never by more than one byte too many.
+    // At Ok the source was read to its end, at words of no command not at all, and never by more than one byte too
+    // many.
     ensures whole { result ≡ Status.Ok → IsAtEnd (S.left history.new) }
-    ensures unread { ¬ IsCommandLine (texts_of words.now) → Keeps (S.left history.old) (S.left history.new) }
+    ensures unread { ¬ IsCommandLine (texts_of words.now) →
+        Keeps (S.left history.old) (S.left history.new) }
     ensures taken { TakesAtMost (LONGEST_DOCUMENT + 1) (S.left history.old) (S.left history.new) }
 
     // A fault is answered only where the count of its object rose, and where one rose.
-    ensures read_fault { result ≡ Status.ReadFault → Rose (S.faults history.old) (S.faults history.new) }
+    ensures read_fault { result ≡ Status.ReadFault →
+        Rose (S.faults history.old) (S.faults history.new) }
     ensures write_fault { result ≡ Status.WriteFault → Rose (K.faults out.old) (K.faults out.new) }
-    ensures reads_fine { (result ≡ Status.ReadFault) ⊎ (result ≡ Status.WriteFault) ⊎ (S.faults history.new ≡ S.faults history.old) }
+    ensures reads_fine { (result ≡ Status.ReadFault) ⊎ (result ≡ Status.WriteFault)
+        ⊎ (S.faults history.new ≡ S.faults history.old) }
     ensures writes_fine { (result ≡ Status.WriteFault) ⊎ (K.faults out.new ≡ K.faults out.old) }
     ensures reads_later { S.faults history.old ≤ S.faults history.new }
     ensures writes_later { K.faults out.old ≤ K.faults out.new }

@@ -24,9 +24,11 @@ pub fn take_history<S: Source>(alloc: Global, source: &mut S) -> Result<Vec<u8>,
     ensures most { IfOk result (λ v. vec_len v ≤ LONGEST_DOCUMENT + 1) }
     ensures end { IfOk result (λ v. vec_len v ≤ LONGEST_DOCUMENT → IsAtEnd (S.left source.new)) }
     ensures taken { TakesAtMost (LONGEST_DOCUMENT + 1) (S.left source.old) (S.left source.new) }
-    ensures read { IfErr result (λ e. e ≡ TakeFault.Read → Rose (S.faults source.old) (S.faults source.new)) }
+    ensures read { IfErr result
+        (λ e. e ≡ TakeFault.Read → Rose (S.faults source.old) (S.faults source.new)) }
     ensures fine { OnOk result (S.faults source.new ≡ S.faults source.old) }
-    ensures memory { IfErr result (λ e. e ≡ TakeFault.Memory → S.faults source.new ≡ S.faults source.old) }
+    ensures memory { IfErr result
+        (λ e. e ≡ TakeFault.Memory → S.faults source.new ≡ S.faults source.old) }
     ensures later { S.faults source.old ≤ S.faults source.new }
 {
     let mut taken = Vec::new(alloc);

@@ -37,8 +37,10 @@ fn value_of<'a>(word: &'a str, name: &str) -> Option<&'a str>
 
 /// The value of an option that the words give at most once. None where they give it more often.
 fn only_value<'a>(words: &[&'a str], name: &str) -> Option<Option<&'a str>>
-    ensures some { IfSome result (λ o. values_of name.now (texts_of words.now) ≡ option_to_list (text_of o)) }
-    ensures none { IfNone result ((x : TheOption (List ℕ)) → values_of name.now (texts_of words.now) ≢ option_to_list x) }
+    ensures some { IfSome result
+        (λ o. values_of name.now (texts_of words.now) ≡ option_to_list (text_of o)) }
+    ensures none { IfNone result
+        ((x : TheOption (List ℕ)) → values_of name.now (texts_of words.now) ≢ option_to_list x) }
 {
     let mut found = None;
     for word in words {
@@ -68,8 +70,10 @@ fn give_options(words: &[&str], names: &[&str]) -> bool
 
 /// The values of the two options that the words may give, in any order.
 fn both_values<'a>(words: &[&'a str], first: &str, second: &str) -> Option<Two<'a>>
-    ensures some { IfSome result (λ o. GivesBoth (texts_of words.now) first.now second.now (text_of o.0) (text_of o.1)) }
-    ensures none { IfNone result ((x y : TheOption (List ℕ)) → ¬ GivesBoth (texts_of words.now) first.now second.now x y) }
+    ensures some { IfSome result
+        (λ o. GivesBoth (texts_of words.now) first.now second.now (text_of o.0) (text_of o.1)) }
+    ensures none { IfNone result
+        ((x y : TheOption (List ℕ)) → ¬ GivesBoth (texts_of words.now) first.now second.now x y) }
 {
     if !give_options(words, &[first, second]) {
         return None;
@@ -85,8 +89,11 @@ fn both_values<'a>(words: &[&'a str], first: &str, second: &str) -> Option<Two<'
 
 /// The values of the three options that the words may give, in any order.
 fn three_values<'a>(words: &[&'a str], first: &str, second: &str, third: &str) -> Option<Three<'a>>
-    ensures some { IfSome result (λ o. GivesThree (texts_of words.now) first.now second.now third.now (text_of o.0) (text_of o.1) (text_of o.2)) }
-    ensures none { IfNone result ((x y z : TheOption (List ℕ)) → ¬ GivesThree (texts_of words.now) first.now second.now third.now x y z) }
+    ensures some { IfSome result
+        (λ o. GivesThree (texts_of words.now) first.now second.now third.now
+        (text_of o.0) (text_of o.1) (text_of o.2)) }
+    ensures none { IfNone result ((x y z : TheOption (List ℕ)) →
+        ¬ GivesThree (texts_of words.now) first.now second.now third.now x y z) }
 {
     if !give_options(words, &[first, second, third]) {
         return None;
@@ -121,8 +128,10 @@ pub fn options_of<'w, 'a>(words: &'w [&'a str], name: &str) -> Option<&'w [&'a s
 
 /// The values of the two options that a command may have, where the words ask for it.
 pub fn two_options<'a>(words: &[&'a str], name: &str, first: &str, second: &str) -> Option<Two<'a>>
-    ensures some { IfSome result (λ o. AsksBoth (texts_of words.now) name.now first.now second.now (text_of o.0) (text_of o.1)) }
-    ensures none { IfNone result ((x y : TheOption (List ℕ)) → ¬ AsksBoth (texts_of words.now) name.now first.now second.now x y) }
+    ensures some { IfSome result (λ o. AsksBoth (texts_of words.now) name.now first.now second.now
+        (text_of o.0) (text_of o.1)) }
+    ensures none { IfNone result ((x y : TheOption (List ℕ)) →
+        ¬ AsksBoth (texts_of words.now) name.now first.now second.now x y) }
 {
     match options_of(words, name) {
         Some(options) => both_values(options, first, second),
@@ -138,8 +147,11 @@ pub fn three_options<'a>(
     second: &str,
     third: &str,
 ) -> Option<Three<'a>>
-    ensures some { IfSome result (λ o. AsksThree (texts_of words.now) name.now first.now second.now third.now (text_of o.0) (text_of o.1) (text_of o.2)) }
-    ensures none { IfNone result ((x y z : TheOption (List ℕ)) → ¬ AsksThree (texts_of words.now) name.now first.now second.now third.now x y z) }
+    ensures some { IfSome result
+        (λ o. AsksThree (texts_of words.now) name.now first.now second.now third.now
+        (text_of o.0) (text_of o.1) (text_of o.2)) }
+    ensures none { IfNone result ((x y z : TheOption (List ℕ)) →
+        ¬ AsksThree (texts_of words.now) name.now first.now second.now third.now x y z) }
 {
     match options_of(words, name) {
         Some(options) => three_values(options, first, second, third),

@@ -27,13 +27,16 @@ fn counts(
     fields: usize,
     spells: usize,
 ) -> Result<String, AllocError>
-    ensures { IfOk result (λ s. string_bytes s ≡ decimal gates ++ (codes " gate, " ++ (decimal apis ++ (codes " api, " ++ (decimal fields ++ (codes " field, " ++ (decimal spells ++ codes " spell entries\n"))))))) }
+    ensures { IfOk result (λ s. string_bytes s ≡ decimal gates ++ (codes " gate, "
+        ++ (decimal apis ++ (codes " api, " ++ (decimal fields ++ (codes " field, "
+        ++ (decimal spells ++ codes " spell entries\n"))))))) }
 {
     format!(in alloc; "{gates} gate, {apis} api, {fields} field, {spells} spell entries\n")
 }
 
 fn acceptance_of(alloc: Global, first: &str, last: &str, counts: &str) -> Result<String, AllocError>
-    ensures { IfOk result (λ s. string_bytes s ≡ codes "accepted " ++ (first.now ++ (codes " to " ++ (last.now ++ (codes ": " ++ counts.now))))) }
+    ensures { IfOk result (λ s. string_bytes s ≡ codes "accepted "
+        ++ (first.now ++ (codes " to " ++ (last.now ++ (codes ": " ++ counts.now))))) }
 {
     format!(in alloc; "accepted {first} to {last}: {counts}")
 }

@@ -57,7 +57,8 @@ fn unreadable_line(alloc: Global, fault: &str) -> Result<String, AllocError>
 }
 
 fn unreadable(alloc: Global, path: &[Text], cause: ReadCause) -> Result<String, Memory>
-    ensures { IfOk result (λ s. string_bytes s ≡ codes "object: " ++ (fault_text path.now cause ++ codes "\n")) }
+    ensures { IfOk result
+        (λ s. string_bytes s ≡ codes "object: " ++ (fault_text path.now cause ++ codes "\n")) }
 {
     let fault = fault_text(alloc, path, cause)?;
     Ok(unreadable_line(alloc, fault.as_str())?)

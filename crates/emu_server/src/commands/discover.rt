@@ -1,23 +1,17 @@
 //! The command `discover`: the group list of a release under a runtime configuration.
 ghost use Rattle.std.specs.Prelude.{◌≡◌, IfOk, IfSome, IfNone, string_bytes};
-ghost use Rattle.flag_text.specs.Pieces.{pieces};
-ghost use Rattle.lifecycle.specs.Tables.{cutoff};
-ghost use Rattle.minor_version.specs.Ranges.{IsEmulable};
-ghost use Rattle.runtime_config.specs.Config.{IsRuntimeText, AreServed};
-ghost use Rattle.schemas.specs.Rules.{first_of, last_of};
 ghost use Rattle.emu_server.specs.Answers.{Meets};
-ghost use Rattle.emu_server.specs.Discover.{IsDiscoverLine, IsGroupListLine, IsListing, config_fault_line};
+ghost use Rattle.emu_server.specs.Discover.{IsDiscoverLine, IsListing, config_fault_line, group_list_text};
 ghost use Rattle.emu_server.specs.Words.{texts_of};
 ghost use Rattle.emu_server.specs.declared.commands.discover.Options.{Options as TheOptions};
 
 use crate::answer::Answer;
 use crate::emulated::{emulated_release, version_refusal};
-use crate::views::viewed;
 use crate::words::{EMULATED_VERSION, RUNTIME_CONFIG, text_or_empty, two_options};
 use basis::Memory;
 use discovery::group_list;
-use minor_version::Minor;
-use runtime_config::{ConfigCause, ConfigFault, Enabled, enabled_at};
+use release_view::{View, view_by_config};
+use runtime_config::{ConfigCause, ConfigFault};
 use schemas::Accepted;
 use std::alloc::{AllocError, Global};
 
@@ -39,22 +33,11 @@ pub fn read<'a>(words: &[&'a str]) -> Option<Options<'a>>
     }
 }
 
-/// The group list of a release that serves these versions by its runtime configuration, in compact JSON, and one line
-/// feed.
-fn group_list_line(
-    alloc: Global,
-    accepted: &Accepted,
-    e: Minor,
-    runtime: &str,
-    on: Enabled,
-) -> Result<String, Memory>
-    requires viewed { IsEmulable (first_of accepted.now) (last_of accepted.now) e }
-    requires valid { IsRuntimeText (cutoff accepted.now.apis e) runtime.now }
-    requires served { AreServed (cutoff accepted.now.apis e) (pieces runtime.now) on }
-    ensures { IfOk result (λ s. IsGroupListLine accepted.now e runtime.now (string_bytes s)) }
+/// The group list of a release, in compact JSON, and one line feed.
+fn group_list_line(alloc: Global, view: &View) -> Result<String, Memory>
+    ensures { IfOk result (λ s. string_bytes s ≡ group_list_text view.now) }
 {
-    let view = viewed(alloc, accepted, e, runtime, on)?;
-    let value = group_list(alloc, &view)?;
+    let value = group_list(alloc, view)?;
     let mut text = value.to_string(alloc)?;
     text.push('\n')?;
     Ok(text)
@@ -89,10 +72,9 @@ pub fn answer(alloc: Global, options: Options<'_>, accepted: &Accepted) -> Resul
         Err(fault) => return version_refusal(alloc, accepted, fault),
     };
     let runtime = text_or_empty(options.runtime);
-    let entries = accepted.history().apis.items();
-    match enabled_at(alloc, entries, e, runtime.as_bytes()) {
-        Ok(on) => {
-            let text = group_list_line(alloc, accepted, e, runtime, on)?;
+    match view_by_config(alloc, accepted, e, runtime.as_bytes()) {
+        Ok(view) => {
+            let text = group_list_line(alloc, &view)?;
             Ok(Answer::done(text))
         }
         Err(ConfigFault::Memory) => Err(Memory),

@@ -57,7 +57,9 @@ fn row_line(
     locked: &str,
     value: &str,
 ) -> Result<String, AllocError>
-    ensures { IfOk result (λ s. string_bytes s ≡ name.now ++ (codes " " ++ (stage.now ++ (codes " default=" ++ (default.now ++ (codes " locked=" ++ (locked.now ++ (codes " value=" ++ (value.now ++ codes "\n"))))))))) }
+    ensures { IfOk result (λ s. string_bytes s ≡ name.now ++ (codes " " ++ (stage.now
+        ++ (codes " default=" ++ (default.now ++ (codes " locked=" ++ (locked.now
+        ++ (codes " value=" ++ (value.now ++ codes "\n"))))))))) }
 {
     format!(in alloc; "{name} {stage} default={default} locked={locked} value={value}\n")
 }
@@ -83,12 +85,8 @@ fn listed_gates(alloc: Global, values: &GateValues) -> Result<String, Memory>
 {
     let mut text = String::new(alloc);
     for row in values.rows() {
-        let Ok(line) = line_of(alloc, row) else {
-            return Err(Memory);
-        };
-        let Ok(()) = text.push_str(line.as_str()) else {
-            return Err(Memory);
-        };
+        let line = line_of(alloc, row)?;
+        text.push_str(line.as_str())?;
     }
     Ok(text)
 }

@@ -1,5 +1,5 @@
 -- A broken rule is answered with its line.
-use Rattle.std.proofs.Common.{◌≡◌, inl, inr, ◌∙◌}
+use Rattle.std.proofs.Common.{inl, inr, ◌∙◌}
 use Rattle.schemas.specs.Rules.{IsFirstFault, checks}
 use Rattle.emu_server.proofs.refusals.answer_to.Goals as goal
 
