@@ -1,0 +1,4 @@
+pub mod TargetLemmas
+pub mod TextLemmas
+pub mod QueryLemmas
+pub mod WarningLemmas
