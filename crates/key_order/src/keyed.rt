@@ -8,7 +8,7 @@ use object_journal::Key;
 
 /// What has a key.
 pub trait Keyed {
-    /// The key.
+    /// The key, as contracts see it.
     ghost key_of: { Self → KeyS };
 
     /// The key.
@@ -43,7 +43,8 @@ pub fn put<T: Keyed + Drop>(items: &mut Vec<T>, item: T) -> bool
     requires ordered { AreInKeyOrder T.key_of items.old.items }
     requires room { ¬ HoldsKey T.key_of items.old.items (T.key_of item)
         → vec_len items.old + 1 ≤ vec_capacity items.old }
-    ensures changed { IsChanged T.key_of items.old.items (T.key_of item) (Some item) items.new.items }
+    ensures changed { IsChanged T.key_of
+        items.old.items (T.key_of item) (Some item) items.new.items }
     ensures is_new { IsTrue result ↔ (¬ HoldsKey T.key_of items.old.items (T.key_of item)) }
 {
     match place_of(items, item.key()) {

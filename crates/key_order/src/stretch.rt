@@ -27,7 +27,8 @@ fn side_inside(key: &Key, group: &[u8], resource: &[u8], namespace: &[u8]) -> Or
 // Where the elements of the group and resource start and end.
 fn bounds_of<T: Keyed>(items: &[T], group: &[u8], resource: &[u8]) -> (usize, usize)
     requires { AreInKeyOrder T.key_of items.now }
-    ensures { AreBounds (λ x. side_of group.now resource.now (T.key_of x)) items.now result.0 result.1 }
+    ensures { AreBounds (λ x. side_of group.now resource.now (T.key_of x))
+        items.now result.0 result.1 }
 {
     let start = items.partition_point(|x| side_of(x.key(), group, resource).is_lt());
     let end = items.partition_point(|x| side_of(x.key(), group, resource).is_le());

@@ -30,10 +30,12 @@ objects_of group resource objects = filter (λ s. is_of group resource s.key) ob
 
 -- the objects of the group, resource and namespace
 abbrev pub objects_inside : List ℕ → List ℕ → List ℕ → List Stored → List Stored
-objects_inside group resource namespace objects = filter (λ s. is_inside group resource namespace s.key) objects
+objects_inside group resource namespace objects =
+    filter (λ s. is_inside group resource namespace s.key) objects
 
 -- an object is there exactly where the change leaves it at its key, or where it is of another key and was there
 pub record IsChanged (old : List Stored) (change : Change) (new : List Stored) : Type 0 where
   pub order : AreInKeyOrder new
   pub exact : (key : Key) (object : Object) → Holds new key object
-      ↔ (((key ≡ change.key) × (change.object ≡ Some object)) ⊎ ((key ≢ change.key) × Holds old key object))
+      ↔ (((key ≡ change.key) × (change.object ≡ Some object))
+      ⊎ ((key ≢ change.key) × Holds old key object))

@@ -14,8 +14,10 @@ pub record State : Type 0 where
 
 -- an object that comes is one record more, and one that goes is one less
 pub record IsCounted (old : State) (change : Change) (new : State) : Type 0 where
-  pub comes : (object : Object) → change.object ≡ Some object → ¬ HasKey old.objects change.key → new.records ≡ old.records + 1
-  pub stays : (object : Object) → change.object ≡ Some object → HasKey old.objects change.key → new.records ≡ old.records
+  pub comes : (object : Object) → change.object ≡ Some object
+      → ¬ HasKey old.objects change.key → new.records ≡ old.records + 1
+  pub stays : (object : Object) → change.object ≡ Some object
+      → HasKey old.objects change.key → new.records ≡ old.records
   pub goes : change.object ≡ None → new.records ≡ old.records - 1
 
 -- the state after a change, which is the next revision

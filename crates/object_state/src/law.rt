@@ -13,7 +13,8 @@ use crate::state::State;
 /// A key holds at most one object.
 pub fn key_holds_one_object(objects: &[Stored])
     requires { AreInKeyOrder objects.now }
-    ensures { (key : KeyS) (a b : ObjectS) → Holds objects.now key a → Holds objects.now key b → a ≡ b }
+    ensures { (key : KeyS) (a b : ObjectS) → Holds objects.now key a
+        → Holds objects.now key b → a ≡ b }
 {}
 
 /// A change leaves one state.
@@ -24,8 +25,9 @@ pub fn change_leaves_one_state(state: &State, change: &Change)
 
 /// A change leaves what is under the other keys.
 pub fn change_touches_one_key(state: &State, change: &Change)
-    ensures { (new : StateS) (key : KeyS) (object : ObjectS) → IsApplied state.now.state change.now new
-        → key ≢ change.now.key → Holds new.objects key object ↔ Holds state.now.state.objects key object }
+    ensures { (new : StateS) (key : KeyS) (object : ObjectS)
+        → IsApplied state.now.state change.now new → key ≢ change.now.key
+        → Holds new.objects key object ↔ Holds state.now.state.objects key object }
 {}
 
 /// A change leaves one object more where its key is new, as many where it puts an object over another, and one less where

@@ -12,11 +12,13 @@ use object_journal::Key;
 // Puts the object, for which there is room where its key is new, and answers how many records there are then.
 fn put_in(objects: &mut Option<Vec<Stored>>, records: u64, stored: Stored) -> u64
     requires order { AreInKeyOrder (objects_in objects.old) }
-    requires room { ¬ HoldsKey (λ s. s.key) (objects_in objects.old) stored.key → HasRoom objects.old }
+    requires room { ¬ HoldsKey (λ s. s.key) (objects_in objects.old) stored.key
+        → HasRoom objects.old }
     requires counted { records + 1 < 2 ^ 64 }
     ensures changed { IsKeyChanged (λ s. s.key)
         (objects_in objects.old) stored.key (Some stored) (objects_in objects.new) }
-    ensures comes { ¬ HoldsKey (λ s. s.key) (objects_in objects.old) stored.key → result ≡ records + 1 }
+    ensures comes { ¬ HoldsKey (λ s. s.key) (objects_in objects.old) stored.key
+        → result ≡ records + 1 }
     ensures stays { HoldsKey (λ s. s.key) (objects_in objects.old) stored.key → result ≡ records }
 {
     let Some(objects) = objects else {
@@ -32,7 +34,8 @@ fn put_in(objects: &mut Option<Vec<Stored>>, records: u64, stored: Stored) -> u6
 // Takes out what is under the key.
 fn take_from(objects: &mut Option<Vec<Stored>>, key: &Key)
     requires { AreInKeyOrder (objects_in objects.old) }
-    ensures { IsKeyChanged (λ s. s.key) (objects_in objects.old) key.now None (objects_in objects.new) }
+    ensures { IsKeyChanged (λ s. s.key)
+        (objects_in objects.old) key.now None (objects_in objects.new) }
 {
     if let Some(objects) = objects {
         take_out(objects, key);
