@@ -1,74 +1,94 @@
 //! Questions on gates.
-use crate::history::{History, release};
-use gate_flags::{GateFault, GateValues, gate_values};
+use crate::history::History;
+use gate_flags::{GateFault, GateRow, GateValues, gate_values};
 use gate_spec::{rises_in_date, spec_at};
+use minor_version::{Memory, Minor};
 use std::alloc::Global;
 use std::fmt::Write;
 
-/// `<release> <name>`: what the release knows of the gate.
-pub fn spec(alloc: Global, history: &History, rest: &str) -> anyhow::Result<String> {
-    let (at, name) = rest.split_once(' ').unwrap_or((rest, ""));
-    let e = release(at)?;
-    if !rises_in_date(&history.gates) {
-        return Ok(String::from_str(alloc, "dates fall")?);
+fn said(alloc: Global, text: &str) -> Result<String, Memory> {
+    Ok(String::from_str(alloc, text)?)
+}
+
+/// The fault with all that it says.
+fn whole_fault(alloc: Global, fault: GateFault) -> Result<String, Memory> {
+    Ok(format!(in alloc; "{fault:?}")?)
+}
+
+/// What the release knows of the gate.
+pub fn spec(alloc: Global, history: &History, e: Minor, name: &str) -> Result<String, Memory> {
+    if !rises_in_date(history.gates.items()) {
+        return said(alloc, "dates fall");
     }
-    let spec = spec_at(&history.gates, name.as_bytes(), e);
+    let spec = spec_at(history.gates.items(), name.as_bytes(), e);
     Ok(format!(in alloc; "{spec:?}")?)
 }
 
-fn values_of(
-    alloc: Global,
-    history: &History,
-    at: &str,
-    text: &str,
-) -> anyhow::Result<Result<GateValues, GateFault>> {
-    let e = release(at)?;
-    if !rises_in_date(&history.gates) {
-        return Err(anyhow::anyhow!("dates fall"));
-    }
-    Ok(gate_values(alloc, &history.gates, e, text.as_bytes()))
-}
-
-/// `<release> <text>`: the rows that the text gives, or the fault with all that it says.
-pub fn rows(alloc: Global, history: &History, rest: &str) -> anyhow::Result<String> {
-    let (at, text) = rest.split_once(' ').unwrap_or((rest, ""));
-    match values_of(alloc, history, at, text)? {
-        Ok(values) => listed(alloc, &values),
-        Err(fault) => Ok(format!(in alloc; "{fault:?}")?),
+fn push_row(line: &mut String, row: &GateRow) -> Result<(), Memory> {
+    let name = row.name.as_str();
+    match write!(
+        line,
+        "{name} {:?} {} {} {};",
+        row.stage, row.default, row.locked, row.value
+    ) {
+        Ok(()) => Ok(()),
+        Err(_) => Err(Memory),
     }
 }
 
-fn listed(alloc: Global, values: &GateValues) -> anyhow::Result<String> {
+fn push_rows(line: &mut String, rows: &[GateRow]) -> Result<(), Memory> {
+    for row in rows {
+        match push_row(line, row) {
+            Ok(()) => {}
+            Err(memory) => return Err(memory),
+        }
+    }
+    Ok(())
+}
+
+fn listed(alloc: Global, values: &GateValues) -> Result<String, Memory> {
     let mut line = String::new(alloc);
-    for row in values.rows() {
-        let name = row.name.as_str();
-        write!(
-            line,
-            "{name} {:?} {} {} {};",
-            row.stage, row.default, row.locked, row.value
-        )?;
+    match push_rows(&mut line, values.rows()) {
+        Ok(()) => Ok(line),
+        Err(memory) => Err(memory),
     }
-    Ok(line)
 }
 
-/// `<release> <text>`: the fault as it is printed.
-pub fn fault(alloc: Global, history: &History, rest: &str) -> anyhow::Result<String> {
-    let (at, text) = rest.split_once(' ').unwrap_or((rest, ""));
-    match values_of(alloc, history, at, text)? {
-        Ok(_values) => Ok(String::from_str(alloc, "none")?),
+/// The rows that the text gives, or the fault with all that it says.
+pub fn rows(alloc: Global, history: &History, e: Minor, text: &str) -> Result<String, Memory> {
+    if !rises_in_date(history.gates.items()) {
+        return said(alloc, "dates fall");
+    }
+    match gate_values(alloc, history.gates.items(), e, text.as_bytes()) {
+        Ok(values) => listed(alloc, &values),
+        Err(fault) => whole_fault(alloc, fault),
+    }
+}
+
+/// The fault as it is printed.
+pub fn fault(alloc: Global, history: &History, e: Minor, text: &str) -> Result<String, Memory> {
+    if !rises_in_date(history.gates.items()) {
+        return said(alloc, "dates fall");
+    }
+    match gate_values(alloc, history.gates.items(), e, text.as_bytes()) {
+        Ok(_) => said(alloc, "none"),
         Err(fault) => Ok(format!(in alloc; "{fault}")?),
     }
 }
 
-/// `<release> <name> <text>`: the value of the gate.
-pub fn value(alloc: Global, history: &History, rest: &str) -> anyhow::Result<String> {
-    let (at, rest) = rest.split_once(' ').unwrap_or((rest, ""));
+fn value_in(alloc: Global, values: &GateValues, name: &str) -> Result<String, Memory> {
+    let value = values.value(name.as_bytes());
+    Ok(format!(in alloc; "{value:?}")?)
+}
+
+/// `<name> <text>`: the value of the gate.
+pub fn value(alloc: Global, history: &History, e: Minor, rest: &str) -> Result<String, Memory> {
     let (name, text) = rest.split_once(' ').unwrap_or((rest, ""));
-    match values_of(alloc, history, at, text)? {
-        Ok(values) => {
-            let value = values.value(name.as_bytes());
-            Ok(format!(in alloc; "{value:?}")?)
-        }
-        Err(fault) => Ok(format!(in alloc; "{fault:?}")?),
+    if !rises_in_date(history.gates.items()) {
+        return said(alloc, "dates fall");
+    }
+    match gate_values(alloc, history.gates.items(), e, text.as_bytes()) {
+        Ok(values) => value_in(alloc, &values, name),
+        Err(fault) => whole_fault(alloc, fault),
     }
 }

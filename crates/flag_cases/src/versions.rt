@@ -1,70 +1,47 @@
 //! Questions on versions of resources.
-use crate::history::{History, group_named, release};
+use crate::history::{History, group_named};
 use lifecycle::{ApiEntry, ApiName, decodable_at, live_at, warning_at};
-use minor_version::{Minor, Text};
+use minor_version::{Memory, Minor};
 use runtime_config::{Enabled, enabled_at};
 use std::alloc::Global;
 use std::fmt::Write;
 use version_index::VersionIndex;
 
-/// `<release> <text>`: the versions and resources that the text leaves served, each as often as the history changes it; or
-/// the fault.
-pub fn served(alloc: Global, history: &History, rest: &str) -> anyhow::Result<String> {
-    let (at, text) = rest.split_once(' ').unwrap_or((rest, ""));
-    let e = release(at)?;
-    match enabled_at(alloc, &history.apis, e, text.as_bytes()) {
-        Ok(enabled) => listed(alloc, history, &enabled),
-        Err(fault) => Ok(format!(in alloc; "{fault}")?),
+fn push_served(line: &mut String, entry: &ApiEntry, enabled: &Enabled) -> Result<(), Memory> {
+    if !entry.change.is_introduction() || !enabled.serves(entry.name()) {
+        return Ok(());
+    }
+    let version = entry.version.as_str();
+    let resource = entry.resource.as_str();
+    match write!(line, "{version} {resource};") {
+        Ok(()) => Ok(()),
+        Err(_) => Err(Memory),
     }
 }
 
-fn listed(alloc: Global, history: &History, enabled: &Enabled) -> anyhow::Result<String> {
-    let mut line = String::new(alloc);
-    for entry in &history.apis {
-        if entry.change.is_introduction() && enabled.serves(entry.name()) {
-            let version = entry.version.as_str();
-            let resource = entry.resource.as_str();
-            write!(line, "{version} {resource};")?;
+fn push_all(line: &mut String, apis: &[ApiEntry], enabled: &Enabled) -> Result<(), Memory> {
+    for entry in apis {
+        match push_served(line, entry, enabled) {
+            Ok(()) => {}
+            Err(memory) => return Err(memory),
         }
     }
-    Ok(line)
+    Ok(())
 }
 
-fn told(alloc: Global, since: Minor, removal: Minor, replacement: &[u8]) -> anyhow::Result<String> {
-    let since = since.number();
-    let removal = removal.number();
-    let replacement = text_of(alloc, replacement)?;
-    let replacement = replacement.as_str();
-    Ok(format!(in alloc; "since {since} until {removal} for {replacement}")?)
-}
-
-fn listed_warning(
-    alloc: Global,
-    entries: &[ApiEntry],
-    name: ApiName<'_>,
-    e: Minor,
-) -> anyhow::Result<String> {
-    match warning_at(entries, name, e) {
-        Some(warning) => told(alloc, warning.since, warning.removal, warning.replacement),
-        None => Ok(String::from_str(alloc, "no warning")?),
+fn listed(alloc: Global, apis: &[ApiEntry], enabled: &Enabled) -> Result<String, Memory> {
+    let mut line = String::new(alloc);
+    match push_all(&mut line, apis, enabled) {
+        Ok(()) => Ok(line),
+        Err(memory) => Err(memory),
     }
 }
 
-fn found_warning<'x>(
-    alloc: Global,
-    index: &VersionIndex<'x>,
-    name: ApiName<'x>,
-) -> anyhow::Result<String> {
-    match index.warning(name) {
-        Some(warning) => told(alloc, warning.since, warning.removal, warning.replacement),
-        None => Ok(String::from_str(alloc, "no warning")?),
-    }
-}
-
-fn text_of(alloc: Global, bytes: &[u8]) -> anyhow::Result<Text> {
-    match Text::copy(alloc, bytes) {
-        Ok(text) => Ok(text),
-        Err(_) => Err(anyhow::anyhow!("no text")),
+/// The versions and resources that the text leaves served, each as often as the history changes it; or the fault.
+pub fn served(alloc: Global, history: &History, e: Minor, text: &str) -> Result<String, Memory> {
+    match enabled_at(alloc, history.apis.items(), e, text.as_bytes()) {
+        Ok(enabled) => listed(alloc, history.apis.items(), &enabled),
+        Err(fault) => Ok(format!(in alloc; "{fault}")?),
     }
 }
 
@@ -77,23 +54,88 @@ fn status(live: bool, decodable: bool) -> &'static str {
     }
 }
 
-/// `<release> <group> <version> <resource>`: whether the version is live or read, and its warning, by the list and by the
-/// index.
-pub fn known<'x>(alloc: Global, history: &'x History, rest: &'x str) -> anyhow::Result<String> {
-    let mut words = rest.split(' ');
-    let e = release(words.next().unwrap_or(""))?;
+fn told(
+    alloc: Global,
+    status: &str,
+    since: Minor,
+    removal: Minor,
+    replacement: &[u8],
+) -> Result<String, Memory> {
+    let since = since.number();
+    let removal = removal.number();
+    let replacement = str::from_utf8(replacement).unwrap_or("no text");
+    Ok(format!(in alloc; "{status}, since {since} until {removal} for {replacement}")?)
+}
+
+fn told_alone(alloc: Global, status: &str) -> Result<String, Memory> {
+    Ok(format!(in alloc; "{status}, no warning")?)
+}
+
+fn told_by_list(
+    alloc: Global,
+    apis: &[ApiEntry],
+    name: ApiName<'_>,
+    e: Minor,
+) -> Result<String, Memory> {
+    let status = status(live_at(apis, name, e), decodable_at(apis, name, e));
+    match warning_at(apis, name, e) {
+        Some(it) => told(alloc, status, it.since, it.removal, it.replacement),
+        None => told_alone(alloc, status),
+    }
+}
+
+fn told_by_index<'x>(
+    alloc: Global,
+    index: &VersionIndex<'x>,
+    name: ApiName<'x>,
+) -> Result<String, Memory> {
+    let status = status(index.is_live(name), index.is_decodable(name));
+    match index.warning(name) {
+        Some(it) => told(alloc, status, it.since, it.removal, it.replacement),
+        None => told_alone(alloc, status),
+    }
+}
+
+fn found<'x>(
+    alloc: Global,
+    apis: &'x [ApiEntry],
+    name: ApiName<'x>,
+    e: Minor,
+) -> Result<String, Memory> {
+    match VersionIndex::at(alloc, apis, e) {
+        Ok(index) => told_by_index(alloc, &index, name),
+        Err(memory) => Err(memory),
+    }
+}
+
+fn joined(alloc: Global, listed: &str, found: &str) -> Result<String, Memory> {
+    Ok(format!(in alloc; "{listed}; {found}")?)
+}
+
+fn told_by_both<'x>(
+    alloc: Global,
+    apis: &'x [ApiEntry],
+    name: ApiName<'x>,
+    e: Minor,
+) -> Result<String, Memory> {
+    let listed = told_by_list(alloc, apis, name, e)?;
+    let found = found(alloc, apis, name, e)?;
+    joined(alloc, listed.as_str(), found.as_str())
+}
+
+/// `<group> <version> <resource>`: whether the version is live or read, and its warning, by the list and by the index.
+pub fn known<'x>(
+    alloc: Global,
+    history: &'x History,
+    e: Minor,
+    rest: &'x str,
+) -> Result<String, Memory> {
+    let (group, rest) = rest.split_once(' ').unwrap_or((rest, ""));
+    let (version, resource) = rest.split_once(' ').unwrap_or((rest, ""));
     let name = ApiName {
-        group: group_named(words.next().unwrap_or("")).as_bytes(),
-        version: words.next().unwrap_or("").as_bytes(),
-        resource: words.next().unwrap_or("").as_bytes(),
+        group: group_named(group).as_bytes(),
+        version: version.as_bytes(),
+        resource: resource.as_bytes(),
     };
-    let listed = listed_warning(alloc, &history.apis, name, e)?;
-    let listed_as = status(
-        live_at(&history.apis, name, e),
-        decodable_at(&history.apis, name, e),
-    );
-    let index = VersionIndex::at(alloc, &history.apis, e)?;
-    let found = found_warning(alloc, &index, name)?;
-    let found_as = status(index.is_live(name), index.is_decodable(name));
-    Ok(format!(in alloc; "{listed_as}, {listed}; {found_as}, {found}")?)
+    told_by_both(alloc, history.apis.items(), name, e)
 }
