@@ -1,6 +1,7 @@
 -- Names of the pieces of a query.
 use Rattle.std.proofs.Common.{◌≡◌, ℕ, ◌+◌, ◌<◌, ◌≤◌, ◌==◌, Bool, true, false, List, [], ◌∷◌, length, take, drop, Option, Some, None, cond, refl, sym, ◌∙◌, ap, arith, length-drop}
-use Rattle.std.specs.Prelude.{find, map, nat_lt, position}
+use Rattle.std.specs.Prelude.{find, map, nat_lt, option_and_then, position}
+use Rattle.std.specs.Option.{option_map_or}
 use Rattle.std.specs.List.{after_first, position_or_len, slice_split}
 use Rattle.std.proofs.lemmas.List.{take_all}
 use Rattle.std.proofs.lemmas.List.Splits.{slice_split_first, slice_split_none}
@@ -55,7 +56,7 @@ module _ (p : ℕ → Bool) (text : List ℕ) where
   unfolding split_at
   split_rest front rest cut = (split_at front (Some rest) cut).1 ∙ ap (λ t. front ∷ slice_split p t) (sym cut.some.1)
 
-  pub shorter : (front rest : List ℕ) → IsCut p text front (Some rest) → length rest < length text
+  shorter : (front rest : List ℕ) → IsCut p text front (Some rest) → length rest < length text
   shorter front rest cut =
       let below : position_or_len p text < length text = cut.some.0 in
       let is : length rest ≡ length (drop (position_or_len p text + 1) text) = ap length cut.some.1 in
@@ -81,14 +82,26 @@ module _ (query front name : List ℕ) (named : name ≡ piece_name front) where
       ap (λ b. cond b (Some (piece_name front)) (find is_unsupported (map piece_name parts.0))) first in
       ap Some (is ∙ named) ∙ sym here ∙ ap (λ ps. find is_unsupported (map piece_name ps)) (sym parts.1)
 
-  pub refused_behind : (rest : List ℕ) → IsCut (λ c. c == 38) query front (Some rest) → None ≡ cond (is_unsupported name) (Some name) None → unsupported rest ≡ unsupported query
+  refused_behind : (rest : List ℕ) → IsCut (λ c. c == 38) query front (Some rest) → None ≡ cond (is_unsupported name) (Some name) None → unsupported rest ≡ unsupported query
   refused_behind rest cut e =
       let first : is_unsupported (piece_name front) ≡ false = ap is_unsupported (sym named) ∙ chosen_none (is_unsupported name) name e in
       let next : cond (is_unsupported (piece_name front)) (Some (piece_name front)) (unsupported rest) ≡ unsupported rest = ap (λ b. cond b (Some (piece_name front)) (unsupported rest)) first in
       sym next ∙ ap (λ ps. find is_unsupported (map piece_name ps)) (sym (split_rest (λ c. c == 38) query front rest cut))
 
-  pub refused_nowhere : IsCut (λ c. c == 38) query front None → None ≡ cond (is_unsupported name) (Some name) None → None ≡ unsupported query
+  refused_nowhere : IsCut (λ c. c == 38) query front None → None ≡ cond (is_unsupported name) (Some name) None → None ≡ unsupported query
   refused_nowhere cut e =
       let first : is_unsupported (piece_name front) ≡ false = ap is_unsupported (sym named) ∙ chosen_none (is_unsupported name) name e in
       let next : cond (is_unsupported (piece_name front)) (Some (piece_name front)) None ≡ None = ap (λ b. cond b (Some (piece_name front)) None) first in
       sym next ∙ ap (λ ps. find is_unsupported (map piece_name ps)) (sym (split_whole (λ c. c == 38) query front cut))
+
+  pub refused_later : (behind : Option (List ℕ)) → IsCut (λ c. c == 38) query front behind → None ≡ cond (is_unsupported name) (Some name) None → option_and_then unsupported behind ≡ unsupported query
+  refused_later None cut e = refused_nowhere cut e
+  refused_later (Some rest) cut e = refused_behind rest cut e
+
+-- how much is left of a query
+abbrev pub left_of : Option (List ℕ) → ℕ
+left_of left = option_map_or (λ text. length text + 1) left 0
+
+pub left_shorter : (text front : List ℕ) (behind : Option (List ℕ)) → IsCut (λ c. c == 38) text front behind → left_of behind < left_of (Some text)
+left_shorter text front None cut = omega arith
+left_shorter text front (Some rest) cut = let less = shorter (λ c. c == 38) text front rest cut in omega arith

@@ -52,12 +52,13 @@ fn unsupported_name(name: &[u8]) -> Option<&'static str>
 pub fn unsupported(query: &[u8]) -> Option<&'static str>
     ensures { option_map (λ s. s.now) result ≡ unsupported query.now }
 {
-    let (piece, others) = cut_at(query, b'&');
-    match unsupported_name(piece_name(piece)) {
-        Some(name) => Some(name),
-        None => match others {
-            Some(others) => unsupported(others),
-            None => None,
-        },
+    let mut left = Some(query);
+    while let Some(text) = left {
+        let (piece, others) = cut_at(text, b'&');
+        if let Some(name) = unsupported_name(piece_name(piece)) {
+            return Some(name);
+        }
+        left = others;
     }
+    None
 }
