@@ -50,7 +50,8 @@ HasTree q tree = GoesByBody q.verb q.body × IsTextOf q.body tree
 -- the fields that a body gives, by these rows: what it is read as, with defaults, but for fields that
 -- are off and that the stored object, if there is one, doesn't hold
 pub record AreGivenBy
-    (rows : List FieldRow) (tree : Data) (stored : Option (List FieldPair)) (fields : List FieldPair)
+    (rows : List FieldRow) (tree : Data)
+    (stored : Option (List FieldPair)) (fields : List FieldPair)
     : Type 0 where
   pub read : List FieldPair
   pub reads : Reads Body rows tree read

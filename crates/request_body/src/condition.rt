@@ -76,8 +76,8 @@ fn conditions_in(verb: Verb) -> Option<&'static str>
     }
 }
 
-/// Whether the request is meant for another revision of the object, or for another object: it gives a resource version or
-/// a uid that isn't the object's own.
+/// Whether the request is meant for another revision of the object, or for another object: it gives a resource version
+/// or a uid that isn't the object's own. No memory is taken.
 pub fn is_meant_for_another(verb: Verb, tree: &Value, object: &Object) -> bool
     ensures { IsTrue result ↔ IsMeantForAnother verb (view tree.now) object.now }
 {

@@ -11,8 +11,8 @@ use http_front::{Request, Verb};
 use object_state::State;
 use serde_json::Value;
 
-/// A body gives at most one map of fields by a version's table. That map fits the table, and a body that gives one has no
-/// fault of reading.
+/// A body gives at most one map of fields by a version's table. That map fits the table, and a body that gives one has
+/// no fault of reading.
 pub fn body_gives_one_map(table: &VersionTable, tree: &Value, stored: Option<&Fields>)
     requires { AreLawful table.now.rows }
     ensures once { GivesOnce table.now.rows (view tree.now) (option_copied stored.entry) }

@@ -181,7 +181,7 @@ fn members_of(verb: Verb) -> &'static [Member]
     }
 }
 
-/// The first member of the body that doesn't fit the request's method and place, if there is one.
+/// The first member of the body that doesn't fit the request's method and place, if there is one. No memory is taken.
 pub fn misfit(verb: Verb, place: Place<'_>, tree: &Value) -> Option<Member>
     ensures some { IfSome result (IsMisfit verb (place_seen place.entry) (view tree.now)) }
     ensures none { IfNone result

@@ -14,8 +14,8 @@ use serde_json::Value;
 use std::alloc::Global;
 
 /// The fields that a body gives an object at the place, where `stored` is what the object holds already: those that are
-/// read of the body, with defaults, but for those that are off and not stored. They fit the version's table. The fault is
-/// that of reading (`conversion::read_fields`).
+/// read of the body, with defaults, but for those that are off and not stored. They fit the version's table. The fault
+/// is that of reading (`conversion::read_fields`).
 pub fn fields_given(
     alloc: Global,
     place: Place<'_>,
