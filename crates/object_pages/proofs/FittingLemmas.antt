@@ -9,7 +9,7 @@ use Rattle.fields.specs.Fits.{Fits}
 use Rattle.fields.specs.declared.table.VersionTable.{VersionTable}
 use Rattle.key_order.specs.Stretches.{is_of, is_inside}
 use Rattle.object_pages.specs.Documents.{listed}
-use Rattle.object_pages.specs.Fitting.{AllFit, AreFitting, FitVersions}
+use Rattle.object_pages.specs.Fitting.{AllFit, AreFitting, FitResource, FitVersions}
 use Rattle.object_state.specs.declared.object.Stored.{Stored}
 use Rattle.release_view.specs.declared.known.KnownVersion.{KnownVersion}
 use Rattle.release_view.specs.declared.served.ServedVersion.{ServedVersion}
@@ -48,3 +48,6 @@ module _ (versions : List KnownVersion) (objects : List Stored) (fit : FitVersio
   listed_fit (Some namespace) =
       all_filter (λ x. is_inside r.served.group r.served.resource namespace x.key) (λ x. Fits r.table.rows x.object.fields) objects
       (λ x there of. fits_of x there (and_parts (is_of r.served.group r.served.resource x.key) (bytes_eq x.key.namespace namespace) of).0)
+
+  pub fit_resource : FitResource r objects
+  fit_resource = record { held = held_fits; all = listed_fit }

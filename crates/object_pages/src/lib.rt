@@ -7,6 +7,6 @@ mod list;
 mod page;
 
 pub use body::{deletion_page, document_body};
-pub use law::objects_have_one_page;
+pub use law::{held_objects_fit, objects_have_one_page};
 pub use list::list_page;
 pub use page::{object_page, uid};
