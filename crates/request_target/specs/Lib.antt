@@ -5,6 +5,7 @@
 -- Methods: the methods that may be used on what a request asks for.
 -- Queries: queries that aren't supported.
 -- Warnings: what a client is told that uses a deprecated version.
+-- Plain: warnings without line breaks.
 -- Laws: what follows from what a path asks for.
 pub mod Resources
 pub mod Once
@@ -13,4 +14,5 @@ pub mod Told
 pub mod Methods
 pub mod Queries
 pub mod Warnings
+pub mod Plain
 pub mod Laws

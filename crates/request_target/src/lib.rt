@@ -11,4 +11,4 @@ mod warning;
 pub use asked::{path_asks_for_one, target_of};
 pub use query::unsupported;
 pub use target::{Methods, Resource, Target};
-pub use warning::warning_of;
+pub use warning::{plain_names_warn_plainly, warning_of};

@@ -1,7 +1,8 @@
 //! What a client is told that uses a deprecated version: the text of a `Warning` line (RFC 7234),
 //! in the manner of Kubernetes.
-ghost use Rattle.std.specs.Prelude.{◌≡◌, ◌++◌, IfOk, IsUtf8, option_map, string_bytes};
+ghost use Rattle.std.specs.Prelude.{◌≡◌, ◌++◌, All, IfOk, IsUtf8, option_map, string_bytes};
 ghost use Rattle.lifecycle.specs.Warnings.{told};
+ghost use Rattle.request_target.specs.Plain.{HasPlainNames, WarnsPlainly};
 ghost use Rattle.request_target.specs.Targets.{asked, resource_seen};
 ghost use Rattle.request_target.specs.Warnings.{deprecated_text, instead_text, warning, warning_line, warning_on};
 
@@ -93,4 +94,13 @@ pub fn warning_of(
         Some(of) => warning_on(alloc, view, of),
         None => Ok(None),
     }
+}
+
+/// Where the names of a view's versions have no line breaks, its warnings have none, so that they can
+/// stand in a reply's head. Nothing is computed here; the law is the contract.
+pub fn plain_names_warn_plainly(view: &View)
+    requires { All HasPlainNames view.now.versions }
+    ensures { WarnsPlainly view.now }
+{
+    let _view = view;
 }
