@@ -102,7 +102,7 @@ impl Mux {
     }
 
     /// Takes the next item of the connection's stream. None comes where the stream has none, and where the connection
-    /// isn't held. However the stream is cut into pieces, a byte is looked at only so often.
+    /// isn't held.
     pub fn take(&mut self, c: u32) -> Result<Option<Incoming>, Memory>
         ensures ok { IfOk result (λ taken. Takes self.old c taken self.new) }
         ensures err { OnErr result (KeepsAll self.old self.new) }

@@ -50,8 +50,8 @@ IsShown r key x tree =
 
 -- ---- lists
 
--- the objects of the resource; those in the namespace, where one is asked for. They stand in the
--- order of their keys: by namespace, then by name
+-- the objects of the resource; those in the namespace, where one is asked for. Of objects in key
+-- order they stand by namespace, then by name
 abbrev pub listed : Resource → Option (List ℕ) → List Stored → List Stored
 listed r None objects = objects_of r.served.group r.served.resource objects
 listed r (Some namespace) objects =

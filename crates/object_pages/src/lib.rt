@@ -9,4 +9,4 @@ mod page;
 pub use body::{deletion_page, document_body};
 pub use law::{held_objects_fit, objects_have_one_page};
 pub use list::list_page;
-pub use page::{object_page, uid};
+pub use page::object_page;

@@ -9,7 +9,6 @@ ghost use Rattle.serde_json.specs.Written.{has_float};
 use basis::Memory;
 use conversion::whole_object;
 use discovery::group_version;
-use minor_version::Text;
 use object_journal::Key;
 use object_state::Object;
 use request_target::Resource;
@@ -28,14 +27,6 @@ fn uid_text(alloc: Global, object: &Object) -> Result<String, AllocError>
 {
     let created = object.created;
     format!(in alloc; "u{created}")
-}
-
-/// The object's uid, by which it is told from others that had its key before.
-pub fn uid(alloc: Global, object: &Object) -> Result<Text, Memory>
-    ensures { IfOk result (λ t. t ≡ uid_of object.now) }
-{
-    let text = uid_text(alloc, object)?;
-    Text::from_str(alloc, text.as_str())
 }
 
 fn inside_value(

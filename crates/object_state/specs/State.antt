@@ -6,7 +6,8 @@ use Rattle.object_state.specs.declared.object.Object.{Object}
 use Rattle.object_state.specs.declared.object.Stored.{Stored}
 use Rattle.object_state.specs.declared.object.Change.{Change}
 
--- the objects, in key order, the revision of the store, and the count of its records
+-- the objects, which the type of a state keeps in key order, the revision of the store, and the
+-- count of its records
 pub record State : Type 0 where
   pub objects : List Stored
   pub revision : ℕ

@@ -69,7 +69,7 @@ IsName own json =
 abbrev pub HasName : Option (List ℕ) → Option Data → Type 0
 HasName own name = own ≡ None → IsSome name
 
--- a resource version; an object that is to be made has none
+-- a resource version; where an object is to be made, an empty one
 abbrev pub IsRevision : Option (List ℕ) → Data → Type 0
 IsRevision own json = (text : List ℕ) × (json ≡ string text) × (own ≡ None → text ≡ [])
 
