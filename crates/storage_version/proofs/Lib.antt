@@ -1,0 +1,7 @@
+pub mod ReadLemmas
+pub mod BodyLemmas
+pub mod StorageLemmas
+pub mod StandingLemmas
+pub mod KnownLemmas
+pub mod KeptLemmas
+pub mod StepLemmas
