@@ -1,0 +1,12 @@
+pub mod OrderLemmas
+pub mod PassLemmas
+pub mod GivenLemmas
+pub mod PlaceLemmas
+pub mod PageLemmas
+pub mod OnceLemmas
+pub mod StepLemmas
+pub mod LawLemmas
+pub mod KeptLemmas
+pub mod CountLemmas
+pub mod KeyLemmas
+pub mod OutcomeLemmas

@@ -1,0 +1,27 @@
+-- What becomes of a request.
+use Rattle.std.specs.Prelude.{◌≡◌, Option, Some, IfSome}
+use Rattle.http_front.specs.declared.request.Request.{Request}
+use Rattle.object_state.specs.State.{State}
+use Rattle.request_target.specs.Targets.{AsksFor, Asked}
+use Rattle.request_target.specs.Warnings.{warning}
+use Rattle.api_requests.specs.Answers.{reply_to}
+use Rattle.api_requests.specs.Refusals.{IsNotRefused}
+use Rattle.api_requests.specs.Steps.{Decides, IsGranted}
+use Rattle.api_requests.specs.declared.answer.Answer.{Answer}
+use Rattle.api_requests.specs.declared.decision.Decided.{Decided}
+use Rattle.api_requests.specs.declared.decision.Decision.{Decision}
+use Rattle.api_requests.specs.declared.machine.Machine.{Machine}
+
+-- the request, which asks for this, isn't refused, and this becomes of it
+pub record IsGrantedTo (m : Machine) (s : State) (q : Request)
+    (a : Asked) (d : Decision) : Type 0 where
+  pub free : IsNotRefused s q (Some a)
+  pub granted : IsGranted m s q a d.answer d.change
+
+-- the reply and the change are those of the request's step
+pub record IsDecided (m : Machine) (s : State) (q : Request) (d : Decided) : Type 0 where
+  pub asked : Option Asked
+  pub asks : AsksFor m.view q.path asked
+  pub answer : Answer
+  pub decides : Decides m s q asked answer d.change
+  pub told : d.reply ≡ reply_to q (warning m.view asked) answer
