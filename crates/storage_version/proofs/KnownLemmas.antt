@@ -46,7 +46,7 @@ live_of_best versions group resource t best = sym (some-find (is_live_of group r
 -- ---- the known objects
 
 -- the release knows this much of the object under the key
-abbrev IsKnownAs : List KnownVersion → Key → Object → Object → Type 0
+abbrev pub IsKnownAs : List KnownVersion → Key → Object → Object → Type 0
 IsKnownAs versions key whole object = (t : VersionTable) × (best_table_in versions key.group key.resource ≡ Some t) × (known_object t whole ≡ object)
 
 known_at : (key : Key) (whole : Object) (s : Stored) (o : Option VersionTable) → option_map (λ (t : VersionTable). record { key = key; object = known_object t whole }) o ≡ Some s
@@ -66,10 +66,10 @@ is_known : (versions : List KnownVersion) (key : Key) (whole object : Object) �
 is_known versions key whole object k =
     ap (option_map (λ (t : VersionTable). record { key = key; object = known_object t whole })) k.1 ∙ (λ i. Some (record { key = key; object = k.2 i }))
 
-abbrev known_objects : List KnownVersion → List Stored → List Stored
+abbrev pub known_objects : List KnownVersion → List Stored → List Stored
 known_objects versions objects = filter_map (known_of versions) objects
 
-known_holds : (versions : List KnownVersion) (objects : List Stored) (key : Key) (object : Object) → Holds (known_objects versions objects) key object ↔ ((whole : Object) × Holds objects key whole × IsKnownAs versions key whole object)
+pub known_holds : (versions : List KnownVersion) (objects : List Stored) (key : Key) (object : Object) → Holds (known_objects versions objects) key object ↔ ((whole : Object) × Holds objects key whole × IsKnownAs versions key whole object)
 known_holds versions objects key object = (
   λ there.
       let (z, among, is) = given_of (known_of versions) objects (record { key = key; object = object }) there in
@@ -92,7 +92,7 @@ order_more x xs versions (Some s) is below order = (
   order,
 )
 
-known_order : (versions : List KnownVersion) (objects : List Stored) → AreInKeyOrder objects → AreInKeyOrder (known_objects versions objects)
+pub known_order : (versions : List KnownVersion) (objects : List Stored) → AreInKeyOrder objects → AreInKeyOrder (known_objects versions objects)
 known_order versions [] order = tt
 known_order versions (x ∷ xs) order = order_more x xs versions (known_of versions x) refl order.0 (known_order versions xs order.1)
 

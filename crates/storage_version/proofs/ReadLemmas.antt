@@ -28,10 +28,10 @@ use Rattle.release_view.specs.Known.{Naming, name_of, table_name, naming, naming
 use Rattle.release_view.specs.Later.{AreOfOneHistory, ReadsLiveOf}
 use Rattle.release_view.specs.Laws.{FindsEach, TellsTables, IsTableIn}
 use Rattle.release_view.specs.Spelling.{HaveLawfulTables, SpellAlike}
-use Rattle.release_view.specs.Views.{Viewed, has_name, table_in, version_in, version_table_in, best_table_in, is_live_of, is_of_resource, has_version_text}
+use Rattle.release_view.specs.Views.{Viewed, has_name, table_in, version_in, version_table_in, best_table_in, is_live_of, is_of_resource, has_version_text, IsOfResource}
 use Rattle.release_view.specs.declared.known.KnownVersion.{KnownVersion}
 use Rattle.release_view.proofs.ListLemmas.{found, some_is}
-use Rattle.release_view.proofs.LookupLemmas.{of_resource}
+use Rattle.release_view.proofs.LookupLemmas.{of_resource, found_resource}
 use Rattle.schemas.specs.Dated.{Dated}
 use Rattle.schemas.specs.Laws.{AreOfOneVersion}
 use Rattle.schemas.specs.Rules.{IsAccepted}
@@ -83,6 +83,14 @@ named_version versions group resource tree table named =
     let parts = and_parts (has_version_text named.version v && bytes_eq v.table.group group) (bytes_eq v.table.resource resource) passes in
     let front = and_parts (has_version_text named.version v) (bytes_eq v.table.group group) parts.0 in
     (v, there, is, (bytes_eq-Decides v.table.group group).0 front.1, (bytes_eq-Decides v.table.resource resource).0 parts.1)
+
+named_of_text : (versions : List KnownVersion) (text group resource : List ℕ) (table : VersionTable) (o : Option KnownVersion) → find (is_of_resource text group resource) versions ≡ o → option_map (λ v. v.table) o ≡ Some table → IsOfResource text group resource table
+named_of_text versions text group resource table None is h = absurd (let clash : None ≡ Some table = h in cc)
+named_of_text versions text group resource table (Some v) is h = subst (λ (t : VersionTable). IsOfResource text group resource t) (some_is v.table table h) (found_resource versions text group resource v is)
+
+-- and it is of the version that the object tells
+pub named_text : (versions : List KnownVersion) (group resource : List ℕ) (tree : Data) (table : VersionTable) → (named : IsNamed versions group resource tree table) → IsOfResource named.version group resource table
+named_text versions group resource tree table named = named_of_text versions named.version group resource table (find (is_of_resource named.version group resource) versions) refl named.found
 
 pub reads_fitting : (versions : List KnownVersion) → HaveLawfulTables versions → SpellAlike versions → ReadsFitting versions
 reads_fitting versions lawful alike = λ v body held there read.

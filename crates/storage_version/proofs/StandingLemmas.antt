@@ -139,12 +139,12 @@ best_group versions group resource t best =
     (sym (ap (λ (u : VersionTable). u.group) is) ∙ of.0, sym (ap (λ (u : VersionTable). u.resource) is) ∙ of.1)
 
 -- a version that the release reads, of the resource, with this table
-record IsReadVersion (versions : List KnownVersion) (group resource : List ℕ) (table : VersionTable) : Type 0 where
-  version : KnownVersion
-  among : Contains versions version
-  is : version.table ≡ table
-  of_group : version.table.group ≡ group
-  of_resource : version.table.resource ≡ resource
+pub record IsReadVersion (versions : List KnownVersion) (group resource : List ℕ) (table : VersionTable) : Type 0 where
+  pub version : KnownVersion
+  pub among : Contains versions version
+  pub is : version.table ≡ table
+  pub of_group : version.table.group ≡ group
+  pub of_resource : version.table.resource ≡ resource
 
 named_there : (versions : List KnownVersion) (group resource : List ℕ) (best table : VersionTable) → (best.group ≡ group) × (best.resource ≡ resource) → table_in versions (table_name best) ≡ Some table → IsReadVersion versions group resource table
 named_there versions group resource best table of found =
@@ -165,7 +165,7 @@ stored_at versions group resource table (Some t) p first second h = named_there 
 stored_at versions group resource table None (Some t) first second h = named_there versions group resource t table (second t refl) h
 stored_at versions group resource table None None first second h = absurd (let clash : None ≡ Some table = h in cc)
 
-stored_version : (back versions : List KnownVersion) (group resource : List ℕ) (table : VersionTable) → storage_table_in back versions group resource ≡ Some table → IsReadVersion versions group resource table
+pub stored_version : (back versions : List KnownVersion) (group resource : List ℕ) (table : VersionTable) → storage_table_in back versions group resource ≡ Some table → IsReadVersion versions group resource table
 stored_version back versions group resource table h =
     stored_at versions group resource table (best_table_in back group resource) (best_table_in versions group resource) (best_group back group resource) (best_group versions group resource) h
 

@@ -15,8 +15,8 @@ use Rattle.storage_version.specs.declared.fault.DecodeFault.TheVariants.{Undecod
 
 -- ---- what is stored
 
--- the bytes are the compact text of the object of the table's version and kind that shows the fields. It has no metadata,
--- and no line feed is behind it
+-- the bytes are the compact text of the object of the table's version and kind that shows the fields. It has no
+-- metadata, and no line feed is behind it
 pub record IsBodyOf (table : VersionTable) (held : List FieldPair) (body : List ℕ) : Type 0 where
   pub tree : Data
   pub whole : IsWhole table (group_version table.group table.version) held None tree

@@ -76,7 +76,8 @@ IsForeignIn versions old item = (¬ IsLive versions item.key) × Contains old it
 -- of a live kind, what is kept of the object that the state has under the key
 abbrev pub IsOfObject : List KnownVersion → List KnownVersion → List Item → State → Item → Type 0
 IsOfObject back versions old state item = IsLive versions item.key
-    × ((object : Object) × Holds state.objects item.key object × IsKeptOf back versions old object item)
+    × ((object : Object) × Holds state.objects item.key object
+    × IsKeptOf back versions old object item)
 
 -- The records that are kept of the old ones for a later state, at its revision. A key of a live kind that the state
 -- doesn't have is gone.

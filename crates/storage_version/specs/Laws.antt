@@ -14,7 +14,7 @@ use Rattle.release_view.specs.declared.known.KnownVersion.{KnownVersion}
 use Rattle.schemas.specs.Dated.{Dated}
 use Rattle.storage_version.specs.Bodies.{IsBodyOf, IsBodyRead}
 use Rattle.storage_version.specs.Kept.{IsEntryOf, IsChangeOf, AreKept}
-use Rattle.storage_version.specs.Standing.{StandsFor, known_part}
+use Rattle.storage_version.specs.Standing.{AreReadable, StandsFor, known_part}
 use Rattle.storage_version.specs.Storage.{storage_table_in}
 
 -- what is stored in a version that the release reads is read by it as the same fields
@@ -45,6 +45,13 @@ ReadsFitting versions = (v : KnownVersion) (body : List ℕ) (held : List FieldP
     → Contains versions v → IsBodyRead versions v.table.group v.table.resource body held
     → Fits v.table.rows held
 
+-- what fits a version of the resource that the release reads fits the storage version
+abbrev pub FitsStorage : List KnownVersion → List KnownVersion → Type 0
+FitsStorage back versions = (v : KnownVersion) (held : List FieldPair) (table : VersionTable)
+    → Contains versions v → Fits v.table.rows held
+    → storage_table_in back versions v.table.group v.table.resource ≡ Some table
+    → Fits table.rows held
+
 -- ---- records and states
 
 -- records stand for one state at most
@@ -52,6 +59,14 @@ abbrev pub StandsForOne : List KnownVersion → Type 0
 StandsForOne versions = (items : List Item) (revision : ℕ) (state other : State)
     → StandsFor items revision versions state → StandsFor items revision versions other
     → state ≡ other
+
+-- records that stand for a state stand, under the earlier release, for what it knows of that, where it reads those of
+-- kinds that are live there
+abbrev pub StandsWhereReadable : Viewed → Viewed → Type 0
+StandsWhereReadable back view = (history : Dated) → AreOfOneHistory history back view
+    → (items : List Item) (revision : ℕ) (state : State)
+    → StandsFor items revision view.versions state → AreReadable back.versions items
+    → StandsFor items revision back.versions (known_part back.versions state)
 
 -- a step of a server: the state changes, and the records by the entry of that change
 pub record IsStep (back view : Viewed) (old : List Item) (revision : ℕ) (state : State)
@@ -73,7 +88,8 @@ GoesOnStanding back view = (history : Dated) → AreOfOneHistory history back vi
     → StandsFor new e.revision back.versions (known_part back.versions next))
 
 -- The records that are kept as a state changes. Before any change they are the old ones; after a further step they are
--- those that the step leaves, where no old record is above the revision before it; and for each state they are one list.
+-- those that the step leaves, where no old record is above the revision before it; and for each state they are one
+-- list.
 pub record KeepsRecords (back view : Viewed) : Type 0 where
   pub unchanged : (old : List Item) (revision : ℕ) (state : State)
       → AreInKeyOrder old → StandsFor old revision view.versions state

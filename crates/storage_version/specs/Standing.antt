@@ -31,13 +31,17 @@ pub record HasRecord (items : List Item) (versions : List KnownVersion) (key : K
   pub live : IsLive versions key
   pub read : IsReadAs versions item object
 
--- The records, at this revision of their store, stand for the state: its objects are those that the records of live kinds
--- are read as, each of which must be readable. It counts all records, the foreign ones among them.
+-- each record of a live kind is readable
+abbrev pub AreReadable : List KnownVersion → List Item → Type 0
+AreReadable versions items = (item : Item) → Contains items item → IsLive versions item.key
+    → IsReadable versions item.key.group item.key.resource item.body
+
+-- The records, at this revision of their store, stand for the state: its objects are those that the records of live
+-- kinds are read as, each of which is readable. It counts all records, the foreign ones among them.
 pub record StandsFor (items : List Item) (revision : ℕ) (versions : List KnownVersion)
     (state : State) : Type 0 where
   pub order : AreInKeyOrder state.objects
-  pub readable : (item : Item) → Contains items item → IsLive versions item.key
-      → IsReadable versions item.key.group item.key.resource item.body
+  pub readable : AreReadable versions items
   pub exact : (key : Key) (object : Object)
       → Holds state.objects key object ↔ HasRecord items versions key object
   pub counted : state.records ≡ length items

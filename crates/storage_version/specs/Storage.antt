@@ -11,8 +11,8 @@ abbrev pub or_else : Option VersionTable → Option VersionTable → Option Vers
 or_else (Some table) other = Some table
 or_else None other = other
 
--- the most stable version that is live at the earlier release; where the kind isn't live there, the most stable one that
--- is live at the later release
+-- the most stable version that is live at the earlier release; where the kind isn't live there, the most stable one
+-- that is live at the later release
 abbrev pub storage_version_of : List KnownVersion → List KnownVersion → List ℕ → List ℕ
     → Option GroupVersionResource
 storage_version_of back versions group resource = option_map table_name

@@ -1,5 +1,5 @@
 //! What follows from the definitions, each as the contract of a function that does nothing.
-ghost use Rattle.storage_version.specs.Laws.{ReadsOwn, ReadsKnown, ReadsOnce, ReadsFitting, StandsForOne, GoesOnStanding, KeepsRecords};
+ghost use Rattle.storage_version.specs.Laws.{ReadsOwn, ReadsKnown, ReadsOnce, ReadsFitting, FitsStorage, StandsForOne, StandsWhereReadable, GoesOnStanding, KeepsRecords};
 
 use release_view::{View, later_view_reads_live, view_finds_each, view_is_kept, view_tells_tables};
 
@@ -32,11 +32,30 @@ pub fn body_has_one_reading(view: &View)
     let _view = view;
 }
 
+/// What fits a version of a resource fits its storage version.
+pub fn what_fits_is_stored(back: &View, view: &View)
+    ensures { FitsStorage back.now.versions view.now.versions }
+{
+    view_is_kept(view);
+    let _back = back;
+}
+
 /// Records stand for one state at most.
 pub fn records_stand_for_one_state(view: &View)
     ensures { StandsForOne view.now.versions }
 {
     let _view = view;
+}
+
+/// Records that stand for a state stand under the earlier release for what it knows of that, if it reads those of the kinds
+/// that are live there.
+pub fn readable_records_stand(back: &View, view: &View)
+    ensures { StandsWhereReadable back.now view.now }
+{
+    view_is_kept(back);
+    view_finds_each(back);
+    view_finds_each(view);
+    later_view_reads_live(back, view);
 }
 
 /// The law of a step: where the state changes, and the records by the entry of that change, the records go on standing for
