@@ -1,10 +1,9 @@
 -- How many records a step leaves.
-use Rattle.std.proofs.Common.{◌≡◌, ◌≢◌, ◌⊎◌, inl, inr, ℕ, ◌+◌, ◌-◌, List, Option, Some, None, All, refl, sym, ◌∙◌, ap, subst}
+use Rattle.std.proofs.Common.{◌≡◌, ◌≢◌, ◌⊎◌, inl, inr, ℕ, ◌+◌, ◌-◌, List, Option, Some, None, refl, sym, ◌∙◌, ap, subst}
 use Rattle.std.proofs.lemmas.List.Elements.{recursion_from_All}
 use Rattle.http_front.specs.declared.request.Request.{Request}
 use Rattle.http_front.specs.declared.request.Verb.{Verb}
 use Rattle.http_front.specs.declared.request.Verb.TheVariants.{Get, Post, Put, Delete}
-use Rattle.object_journal.specs.declared.key.Key.{Key}
 use Rattle.object_state.specs.Objects.{HasKey}
 use Rattle.object_state.specs.State.{IsApplied, IsNext, State}
 use Rattle.object_state.specs.declared.object.Change.{Change}
@@ -17,7 +16,7 @@ use Rattle.api_requests.proofs.LawLemmas.{left}
 use Rattle.api_requests.proofs.PageLemmas.{object_of}
 use Rattle.api_requests.specs.Laws.{CountsRecords}
 use Rattle.api_requests.specs.Refusals.{IsNotRefused, Passes, exists_answer, not_allowed_answer, refusals}
-use Rattle.api_requests.specs.Steps.{Decides, IsGranted, IsLeft, IsUpdated, IsWritten, Step}
+use Rattle.api_requests.specs.Steps.{Decides, IsLeft, IsUpdated, IsWritten}
 use Rattle.api_requests.specs.declared.answer.Answer.{Answer}
 use Rattle.api_requests.specs.declared.machine.Machine.{Machine}
 

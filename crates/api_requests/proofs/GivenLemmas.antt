@@ -1,6 +1,6 @@
--- A request gives an object one list of fields, and so passes what is said of any.
-use Rattle.std.proofs.Common.{◌≡◌, ◌≢◌, ℕ, List, All, Bool, true, false, Option, Some, None, refl, sym, ◌∙◌, ap, subst}
-use Rattle.std.specs.Prelude.{IsSome, option_map}
+-- What a request passes as it gives an object one map of fields, and as a key holds one object.
+use Rattle.std.proofs.Common.{◌≡◌, ℕ, List, All, true, false, Option, Some, None, refl, sym, ◌∙◌, ap, subst}
+use Rattle.std.specs.Prelude.{IsSome}
 use Rattle.basis.proofs.FirstLemmas.{first_refutes}
 use Rattle.fields.specs.Map.{value_at}
 use Rattle.fields.specs.declared.map.FieldPair.{FieldPair}
@@ -8,14 +8,13 @@ use Rattle.fields.specs.declared.table.FieldRow.{FieldRow}
 use Rattle.http_front.specs.declared.request.Request.{Request}
 use Rattle.http_front.specs.declared.request.Verb.{Verb}
 use Rattle.http_front.specs.declared.request.Verb.TheVariants.{Put}
-use Rattle.object_journal.specs.declared.key.Key.{Key}
-use Rattle.object_state.specs.Objects.{Finds, HasKey, Holds}
+use Rattle.object_state.proofs.StateLemmas.{one_object}
+use Rattle.object_state.specs.Objects.{AreInKeyOrder, Holds}
 use Rattle.object_state.specs.State.{State}
 use Rattle.object_state.specs.declared.object.Object.{Object}
-use Rattle.object_state.specs.declared.object.Stored.{Stored}
-use Rattle.request_body.proofs.GivenLemmas.{gives_once}
+use Rattle.request_body.proofs.RequestLemmas.{given_once}
 use Rattle.request_body.specs.Places.{IsNameFor, Place, key_of, place_of}
-use Rattle.request_body.specs.Writes.{AreGiven, AreGivenBy, HasTree, IsFirstMissing, IsMeantForAnother, IsProvided}
+use Rattle.request_body.specs.Writes.{AreGiven, HasTree, IsFirstMissing, IsMeantForAnother, IsProvided}
 use Rattle.request_target.specs.Targets.{Asked}
 use Rattle.serde_json.specs.Data.{Data}
 use Rattle.api_requests.proofs.OrderLemmas.{passed_more}
@@ -23,25 +22,11 @@ use Rattle.api_requests.proofs.PassLemmas.{about_name, same_tree}
 use Rattle.api_requests.specs.Calls.{PassedAt, conflict_cases, full_cases, missing_cases, object_cases}
 use Rattle.api_requests.specs.Refusals.{Passes, WouldChange, conflict, last_reached, missing_field, refusals}
 
-found_once : (objects : List Stored) (key : Key) (a b : Option Object) → ((k : Key) (x y : Object) → Holds objects k x → Holds objects k y → x ≡ y) → Finds objects key a → Finds objects key b → a ≡ b
-found_once objects key None None one h k = refl
-found_once objects key None (Some y) one h k = absurd (h (y, k))
-found_once objects key (Some x) None one h k = absurd (k (x, h))
-found_once objects key (Some x) (Some y) one h k = ap (λ o. Some o) (one key x y h k)
-
 some_none : {X : Type 0} (o : Option X) → IsSome o → o ≡ None → ⊥
 some_none None h k = let e : false ≡ true = h in cc
 some_none (Some x) h k = cc
 
-module _ (s : State) (one : (k : Key) (x y : Object) → Holds s.objects k x → Holds s.objects k y → x ≡ y) (q : Request) (place : Place) where
-  pub given_once : (name : List ℕ) (f g : List FieldPair) → AreGiven s q place name f → AreGiven s q place name g → f ≡ g
-  given_once name f g h k =
-      let t : k.tree ≡ h.tree = same_tree q.body k.tree h.tree k.text h.text in
-      let o : k.stored ≡ h.stored = found_once s.objects (key_of place name) k.stored h.stored one k.found h.found in
-      gives_once place.of.table.rows h.tree (option_map (λ (x : Object). x.fields) h.stored) f g h.given
-      (subst (λ (r : Option Object). AreGivenBy place.of.table.rows h.tree (option_map (λ (x : Object). x.fields) r) g) o
-      (subst (λ (d : Data). AreGivenBy place.of.table.rows d (option_map (λ (x : Object). x.fields) k.stored) g) t k.given))
-
+module _ (s : State) (order : AreInKeyOrder s.objects) (q : Request) (place : Place) where
   -- what is given under another reading of the path is given here
   given_here : (name own : List ℕ) (other : Place) (f : List FieldPair) → other ≡ place → own ≡ name → AreGiven s q other own f → AreGiven s q place name f
   given_here name own other f p n h = subst (λ (m : List ℕ). AreGiven s q place m f) n (subst (λ (r : Place). AreGiven s q r own f) p h)
@@ -54,7 +39,7 @@ module _ (s : State) (one : (k : Key) (x y : Object) → Holds s.objects k x →
   not_another a name tree object placed named holds has none = λ answer h.
       let same = about_name q a place h.0 name h.1 placed h.4 named in
       let t : h.2 ≡ tree = same_tree q.body h.2 tree h.6.1 has.1 in
-      let o : h.3 ≡ object = one (key_of place name) h.3 object (held_here name h.1 h.0 h.3 same.0 same.1 h.5) holds in
+      let o : h.3 ≡ object = one_object s.objects (key_of place name) h.3 object order (held_here name h.1 h.0 h.3 same.0 same.1 h.5) holds in
       none (subst (λ (x : Object). IsMeantForAnother q.verb tree x) o (subst (λ (d : Data). IsMeantForAnother q.verb d h.3) t h.7))
 
   pub meant_passed : (name : List ℕ) (tree : Data) (object : Object) → PassedAt s q place object_cases → IsNameFor q place name → Holds s.objects (key_of place name) object
@@ -69,7 +54,7 @@ module _ (s : State) (one : (k : Key) (x y : Object) → Holds s.objects k x →
       → All (IsProvided fields) place.of.table.rows → Passes s q (Some a) missing_field
   none_missing a name fields placed named given all = λ answer h.
       let same = about_name q a place h.0 name h.1 placed h.4 named in
-      let f : h.2 ≡ fields = given_once name h.2 fields (given_here name h.1 h.0 h.2 same.0 same.1 h.6) given in
+      let f : h.2 ≡ fields = given_once s q place order name h.2 fields (given_here name h.1 h.0 h.2 same.0 same.1 h.6) given in
       let first = subst (λ (g : List FieldPair). IsFirstMissing place.of.table.rows g h.3) f (subst (λ (r : Place). IsFirstMissing r.of.table.rows h.2 h.3) same.0 h.7) in
       first_refutes (IsProvided fields) (λ r. (r.required ≡ true) × (value_at fields r.id ≡ None)) place.of.table.rows h.3 (provided_or fields h.3) first all
 
@@ -83,8 +68,8 @@ module _ (s : State) (one : (k : Key) (x y : Object) → Holds s.objects k x →
   no_change a name old put placed named holds given = λ answer h.
       let same = about_name q a place h.0 name h.1 placed h.2 named in
       let w = subst (λ (v : Verb). WouldChange s q h.0 h.1 v) put h.3 in
-      let o : w.0 ≡ old = one (key_of place name) w.0 old (held_here name h.1 h.0 w.0 same.0 same.1 w.2) holds in
-      let f : w.1 ≡ old.fields = given_once name w.1 old.fields (given_here name h.1 h.0 w.1 same.0 same.1 w.3) given in
+      let o : w.0 ≡ old = one_object s.objects (key_of place name) w.0 old order (held_here name h.1 h.0 w.0 same.0 same.1 w.2) holds in
+      let f : w.1 ≡ old.fields = given_once s q place order name w.1 old.fields (given_here name h.1 h.0 w.1 same.0 same.1 w.3) given in
       w.4 (f ∙ ap (λ (x : Object). x.fields) (sym o))
 
   pub unchanged_passed : (name : List ℕ) (old : Object) → PassedAt s q place full_cases → q.verb ≡ Put → IsNameFor q place name → Holds s.objects (key_of place name) old

@@ -1,5 +1,5 @@
 -- A change of a machine in memory keeps what its type says.
-use Rattle.std.proofs.Common.{◌≡◌, ◌≢◌, ◌⊎◌, inl, inr, ℕ, ◌+◌, ◌-◌, ◌<◌, ◌≤◌, List, length, All, Contains, Option, Some, None, refl, sym, ◌∙◌, ap, subst, arith}
+use Rattle.std.proofs.Common.{◌≡◌, ◌≢◌, ◌⊎◌, inl, inr, ◌+◌, ◌-◌, ◌<◌, ◌≤◌, List, length, Contains, Option, Some, None, refl, sym, ◌∙◌, ap, arith}
 use Rattle.std.proofs.lemmas.List.Elements.{All-contains}
 use Rattle.fields.specs.Fits.{Fits}
 use Rattle.key_order.proofs.OrderLemmas.{all_of}
@@ -8,12 +8,12 @@ use Rattle.object_journal.specs.declared.key.Key.{Key}
 use Rattle.object_pages.specs.Fitting.{AreFitting, FitVersions}
 use Rattle.object_state.proofs.StateLemmas.{as_many_objects, has_or_not, one_more_object, one_object_less}
 use Rattle.object_state.specs.Objects.{AreInKeyOrder, HasKey, Holds}
-use Rattle.object_state.specs.State.{IsApplied, MayApply, State}
+use Rattle.object_state.specs.State.{IsApplied, State}
 use Rattle.object_state.specs.declared.object.Change.{Change}
 use Rattle.object_state.specs.declared.object.Object.{Object}
 use Rattle.object_state.specs.declared.object.Stored.{Stored}
 use Rattle.release_view.specs.declared.known.KnownVersion.{KnownVersion}
-use Rattle.api_requests.specs.Kept.{IsKept, Running}
+use Rattle.api_requests.specs.Kept.{IsKept}
 use Rattle.api_requests.specs.Sound.{IsSound, IsWithin}
 use Rattle.api_requests.specs.declared.machine.Machine.{Machine}
 

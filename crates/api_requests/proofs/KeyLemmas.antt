@@ -1,5 +1,5 @@
 -- The refusals of a request that is about the object with a key.
-use Rattle.std.proofs.Common.{◌≡◌, ◌≢◌, ◌↔◌, ℕ, List, All, Bool, true, false, Option, Some, None, refl, sym, ◌∙◌, ap, subst}
+use Rattle.std.proofs.Common.{◌≡◌, ◌≢◌, ◌↔◌, ℕ, List, All, Bool, true, false, None, sym, ◌∙◌, ap, subst}
 use Rattle.std.specs.Prelude.{IsSome, IsTrue}
 use Rattle.fields.specs.declared.map.FieldPair.{FieldPair}
 use Rattle.fields.specs.declared.table.FieldRow.{FieldRow}
@@ -7,7 +7,6 @@ use Rattle.http_front.specs.declared.request.Request.{Request}
 use Rattle.http_front.specs.declared.request.Verb.{Verb}
 use Rattle.http_front.specs.declared.request.Verb.TheVariants.{Post, Put}
 use Rattle.object_journal.specs.declared.key.Key.{Key}
-use Rattle.object_state.proofs.StateLemmas.{one_object}
 use Rattle.object_state.specs.Objects.{AreInKeyOrder, HasKey, Holds}
 use Rattle.object_state.specs.State.{State}
 use Rattle.object_state.specs.declared.object.Object.{Object}
@@ -20,10 +19,6 @@ use Rattle.api_requests.proofs.PassLemmas.{absent_passed, conflict_refused, exis
 use Rattle.api_requests.specs.Calls.{IsRefusedAt, PassedAt, conflict_cases, field_cases, full_cases, missing_cases, object_cases}
 use Rattle.api_requests.specs.Refusals.{conflict_answer, exists_answer, missing_answer, no_object_answer, refusals, WouldChange}
 use Rattle.api_requests.specs.declared.answer.Answer.{Answer}
-
--- where there is one object under a key
-pub one_of : (s : State) → AreInKeyOrder s.objects → (k : Key) (x y : Object) → Holds s.objects k x → Holds s.objects k y → x ≡ y
-one_of s order = λ k x y h g. one_object s.objects k x y order h g
 
 -- what a test refutes doesn't hold
 pub refuted : (b : Bool) (P : Type 0) → IsTrue b ↔ P → b ≡ false → ¬ P
@@ -64,7 +59,7 @@ module _ (s : State) (q : Request) (place : Place) (key : Key) (name : List ℕ)
 
   pub meant_object : AreInKeyOrder s.objects → (tree : Data) (found : Object) → PassedAt s q place object_cases → Holds s.objects key found → HasTree q tree → ¬ IsMeantForAnother q.verb tree found
       → PassedAt s q place conflict_cases
-  meant_object order tree found passed holds has none = meant_passed s (one_of s order) q place name tree found passed named (held_at found holds) has none
+  meant_object order tree found passed holds has none = meant_passed s order q place name tree found passed named (held_at found holds) has none
 
   pub lacking_object : (answer : Answer) (fields : List FieldPair) (row : FieldRow) → PassedAt s q place conflict_cases → GivesFields q.verb → AreGiven s q place name fields
       → IsFirstMissing place.of.table.rows fields row → answer ≡ missing_answer place.of key.name row.path → IsRefusedAt s q place answer
@@ -72,12 +67,12 @@ module _ (s : State) (q : Request) (place : Place) (key : Key) (name : List ℕ)
       missing_refused s q place answer name fields row passed named gives given first (told_by_key (λ of n. missing_answer of n row.path) answer is)
 
   pub complete_object : AreInKeyOrder s.objects → (fields : List FieldPair) → PassedAt s q place conflict_cases → AreGiven s q place name fields → All (IsProvided fields) place.of.table.rows → PassedAt s q place missing_cases
-  complete_object order fields passed given all = complete_passed s (one_of s order) q place name fields passed named given all
+  complete_object order fields passed given all = complete_passed s order q place name fields passed named given all
 
   pub unchanged_object : AreInKeyOrder s.objects → (fields : List FieldPair) (old : Object) → PassedAt s q place full_cases → q.verb ≡ Put → Holds s.objects key old → AreGiven s q place name fields → fields ≡ old.fields
       → PassedAt s q place refusals
   unchanged_object order fields old passed put holds given same =
-      unchanged_passed s (one_of s order) q place name old passed put named (held_at old holds) (subst (λ (f : List FieldPair). AreGiven s q place name f) same given)
+      unchanged_passed s order q place name old passed put named (held_at old holds) (subst (λ (f : List FieldPair). AreGiven s q place name f) same given)
 
   pub changes_object : (fields : List FieldPair) (old : Object) → q.verb ≡ Put → Holds s.objects key old → AreGiven s q place name fields → fields ≢ old.fields → WouldChange s q place name q.verb
   changes_object fields old put holds given other = subst (λ (v : Verb). WouldChange s q place name v) (sym put) (old, fields, held_at old holds, given, other)

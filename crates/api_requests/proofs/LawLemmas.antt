@@ -1,20 +1,19 @@
 -- What a step changes.
-use Rattle.std.proofs.Common.{◌≡◌, ◌≢◌, ◌⊎◌, ◌↔◌, inl, inr, ℕ, ◌+◌, ◌-◌, List, [], ◌∷◌, Option, Some, None, refl, sym, ◌∙◌, ap, subst}
-use Rattle.http_front.specs.declared.reply.Reply.{Reply}
+use Rattle.std.proofs.Common.{◌≡◌, ◌≢◌, ◌⊎◌, inl, inr, ℕ, ◌+◌, List, Option, Some, None, refl, sym, ◌∙◌, ap, subst}
 use Rattle.http_front.specs.declared.request.Request.{Request}
 use Rattle.http_front.specs.declared.request.Verb.{Verb}
 use Rattle.http_front.specs.declared.request.Verb.TheVariants.{Get, Post, Put, Delete, Patch, Head, Other}
 use Rattle.object_journal.specs.declared.key.Key.{Key}
-use Rattle.object_state.specs.Objects.{HasKey, Holds}
+use Rattle.object_state.specs.Objects.{AreInKeyOrder, Holds}
 use Rattle.object_state.specs.State.{IsApplied, IsNext, State}
 use Rattle.object_state.specs.declared.object.Change.{Change}
 use Rattle.object_state.specs.declared.object.Object.{Object}
-use Rattle.request_body.specs.Places.{IsAbout, Place, key_of, place_of}
+use Rattle.request_body.specs.Places.{Place, key_of}
 use Rattle.request_target.specs.Targets.{Asked}
 use Rattle.api_requests.proofs.OnceLemmas.{not_both}
 use Rattle.api_requests.specs.Laws.{ChangesOneKey, IsChangedAt, LeavesState}
-use Rattle.api_requests.specs.Refusals.{IsNotRefused, IsRefused}
-use Rattle.api_requests.specs.Steps.{Decides, IsGranted, IsWritten, Step}
+use Rattle.api_requests.specs.Refusals.{IsRefused}
+use Rattle.api_requests.specs.Steps.{Decides, IsGranted, IsWritten}
 use Rattle.api_requests.specs.declared.answer.Answer.{Answer}
 use Rattle.api_requests.specs.declared.machine.Machine.{Machine}
 
@@ -44,13 +43,13 @@ module _ (s : State) where
   get_decides m q asked x c get (inl h) = h.1
   get_decides m q asked x c get (inr h) = get_leaves m q h.1.0 x c get h.1.2
 
-  refused_decides : (one : (k : Key) (x y : Object) → Holds s.objects k x → Holds s.objects k y → x ≡ y) (m : Machine) (q : Request) (asked : Option Asked) (x y : Answer) (c : Option Change) → IsRefused s q asked y → Decides m s q asked x c → c ≡ None
-  refused_decides one m q asked x y c refused (inl h) = h.1
-  refused_decides one m q asked x y c refused (inr h) = absurd (not_both s one q asked y refused h.0)
+  refused_decides : (order : AreInKeyOrder s.objects) (m : Machine) (q : Request) (asked : Option Asked) (x y : Answer) (c : Option Change) → IsRefused s q asked y → Decides m s q asked x c → c ≡ None
+  refused_decides order m q asked x y c refused (inl h) = h.1
+  refused_decides order m q asked x y c refused (inr h) = absurd (not_both s order q asked y refused h.0)
 
-  pub leaves_state : (one : (k : Key) (x y : Object) → Holds s.objects k x → Holds s.objects k y → x ≡ y) (m : Machine) (q : Request) → LeavesState m s q
-  leaves_state one m q = record {
-    refused = λ reply after step answer h. left s after step.change (refused_decides one m q step.asked step.answer answer step.change h step.decides) step.next;
+  pub leaves_state : (order : AreInKeyOrder s.objects) (m : Machine) (q : Request) → LeavesState m s q
+  leaves_state order m q = record {
+    refused = λ reply after step answer h. left s after step.change (refused_decides order m q step.asked step.answer answer step.change h step.decides) step.next;
     read = λ reply after step get. left s after step.change (get_decides m q step.asked step.answer step.change get step.decides) step.next;
   }
 

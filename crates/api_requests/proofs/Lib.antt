@@ -10,3 +10,4 @@ pub mod KeptLemmas
 pub mod CountLemmas
 pub mod KeyLemmas
 pub mod OutcomeLemmas
+pub mod CodeLemmas

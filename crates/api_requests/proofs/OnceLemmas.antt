@@ -1,6 +1,5 @@
 -- A request has one step.
-use Rattle.std.proofs.Common.{◌≡◌, ◌≢◌, ◌⊎◌, inl, inr, ℕ, ◌+◌, List, [], ◌∷◌, All, Option, Some, None, refl, sym, ◌∙◌, ap, subst}
-use Rattle.std.specs.Prelude.{IsSomeAnd, option_map}
+use Rattle.std.proofs.Common.{◌≡◌, ℕ, List, Option, Some, None, sym, ◌∙◌, ap, subst}
 use Rattle.basis.proofs.FirstLemmas.{first_is_one, first_refutes}
 use Rattle.conversion.proofs.FaultLemmas.{one_fault}
 use Rattle.conversion.proofs.TreeLemmas.{some_one}
@@ -9,33 +8,27 @@ use Rattle.conversion.specs.declared.mode.Mode.TheVariants.{Body}
 use Rattle.fields.specs.declared.map.FieldPair.{FieldPair}
 use Rattle.fields.specs.declared.table.FieldRow.{FieldRow}
 use Rattle.http_front.specs.declared.request.Request.{Request}
-use Rattle.http_front.specs.declared.request.Verb.{Verb}
-use Rattle.http_front.specs.declared.request.Verb.TheVariants.{Get, Post, Put, Delete, Patch, Head, Other}
 use Rattle.object_journal.specs.declared.key.Key.{Key}
-use Rattle.object_pages.proofs.PageLemmas.{one_page}
-use Rattle.object_pages.specs.Documents.{IsShown}
-use Rattle.object_state.specs.Objects.{Holds}
+use Rattle.object_state.specs.Objects.{AreInKeyOrder, Holds}
 use Rattle.object_state.specs.State.{State}
-use Rattle.object_state.specs.declared.object.Change.{Change}
 use Rattle.object_state.specs.declared.object.Object.{Object}
 use Rattle.request_body.proofs.GivenLemmas.{misses_once, one_misfit}
+use Rattle.request_body.proofs.RequestLemmas.{given_once}
 use Rattle.request_body.specs.Members.{IsMisfit}
-use Rattle.request_body.specs.Places.{IsAbout, IsNameFor, Place, key_at, key_of, place_of}
+use Rattle.request_body.specs.Places.{IsAbout, IsNameFor, Place}
 use Rattle.request_body.specs.Writes.{AreGiven, IsFirstMissing}
-use Rattle.request_target.specs.Methods.{Allows, methods}
 use Rattle.request_target.specs.Queries.{unsupported}
-use Rattle.request_target.specs.Targets.{Asked, Resource, releases, gates, groups, group, resources, everywhere, inside, object}
+use Rattle.request_target.specs.Targets.{Asked, Resource}
 use Rattle.serde_json.specs.Data.{Data}
-use Rattle.api_requests.proofs.GivenLemmas.{given_once}
 use Rattle.api_requests.proofs.PassLemmas.{one_name, same_place, same_tree}
 use Rattle.api_requests.specs.Laws.{HasOneVerdict}
-use Rattle.api_requests.specs.Refusals.{IsNotRefused, IsRefused, Passes, Refusal, Refuses, not_served, not_allowed, bad_query, bad_query_answer, no_length, too_large, bad_body, bad_member, bad_member_answer, bad_field, bad_field_answer, no_object, no_object_answer, not_allowed_answer, object_exists, exists_answer, conflict, conflict_answer, missing_field, missing_answer, store_full, last_reached, refusals}
+use Rattle.api_requests.specs.Refusals.{IsNotRefused, IsRefused, Passes, Refusal, Refuses, not_served, not_allowed, bad_query, bad_query_answer, no_length, too_large, bad_body, bad_member, bad_member_answer, bad_field, bad_field_answer, no_object, no_object_answer, object_exists, exists_answer, conflict, conflict_answer, missing_field, missing_answer, store_full, last_reached, refusals}
 use Rattle.api_requests.specs.declared.answer.Answer.{Answer}
 
 name_same : (a b : List ℕ) (o : Option (List ℕ)) → o ≡ Some a → o ≡ Some b → a ≡ b
 name_same a b o h k = some_one o a b h k
 
-module _ (s : State) (one : (k : Key) (x y : Object) → Holds s.objects k x → Holds s.objects k y → x ≡ y) (q : Request) where
+module _ (s : State) (order : AreInKeyOrder s.objects) (q : Request) where
   -- two readings of what the request is about are one
   pub same_about : (a : Asked) (p r : Place) (name other : List ℕ) → IsAbout q a p name → IsAbout q a r other → (r ≡ p) × (other ≡ name)
   same_about a p r name other h k =
@@ -70,7 +63,7 @@ module _ (s : State) (one : (k : Key) (x y : Object) → Holds s.objects k x →
   case_asked a missing_field x y h k =
       let same = same_about a h.0 k.0 h.1 k.1 h.4 k.4 in
       let given = subst (λ (n : List ℕ). AreGiven s q h.0 n k.2) same.1 (subst (λ (r : Place). AreGiven s q r k.1 k.2) same.0 k.6) in
-      let f : k.2 ≡ h.2 = given_once s one q h.0 h.1 k.2 h.2 given h.6 in
+      let f : k.2 ≡ h.2 = given_once s q h.0 order h.1 k.2 h.2 given h.6 in
       let first = subst (λ (g : List FieldPair). IsFirstMissing h.0.of.table.rows g k.3) f (subst (λ (r : Place). IsFirstMissing r.of.table.rows k.2 k.3) same.0 k.7) in
       let row : h.3 ≡ k.3 = misses_once h.0.of.table.rows h.2 h.3 k.3 h.7 first in
       about_answer (λ of name. missing_answer of name h.3.path) a h.0 k.0 h.1 k.1 x y h.4 k.4 h.8 (k.8 ∙ ap (λ (r : FieldRow). missing_answer k.0.of k.1 r.path) (sym row))

@@ -1,5 +1,5 @@
 -- The order of the refusals: a case that holds behind others that don't is that of the refusal.
-use Rattle.std.proofs.Common.{◌≡◌, ◌≢◌, ◌⊎◌, inl, inr, ℕ, List, [], ◌∷◌, ◌++◌, All, Option, Some, None, refl, sym, ◌∙◌, ap, subst, drop}
+use Rattle.std.proofs.Common.{◌≡◌, ◌≢◌, List, [], ◌∷◌, ◌++◌, All, Option, Some, None, refl, drop}
 use Rattle.std.proofs.lemmas.List.Elements.{All-from_recursion, recursion_from_All}
 use Rattle.basis.proofs.ElementLemmas.{AllByRecursion-push}
 use Rattle.http_front.specs.declared.request.Request.{Request}
@@ -9,7 +9,7 @@ use Rattle.http_front.specs.declared.request.Length.TheVariants.{Chunked}
 use Rattle.request_target.specs.Methods.{Allows, methods}
 use Rattle.request_target.specs.Queries.{unsupported}
 use Rattle.request_target.specs.Targets.{Asked}
-use Rattle.api_requests.specs.Calls.{IsAskedAt, IsRefusedAt, PassedAt, head_cases}
+use Rattle.api_requests.specs.Calls.{IsRefusedAt, PassedAt, head_cases}
 use Rattle.api_requests.specs.Heads.{IsCase, IsCaseOf, IsStop, PassesHead, IsRefusedByHead}
 use Rattle.api_requests.specs.Refusals.{Refusal, Refuses, Passes, IsRefused, refusals, not_served, not_allowed, bad_query, no_length, too_large}
 use Rattle.api_requests.specs.declared.answer.Answer.{Answer}

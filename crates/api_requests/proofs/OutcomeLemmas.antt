@@ -1,12 +1,9 @@
 -- What becomes of a request, by what its parts say.
-use Rattle.std.proofs.Common.{◌≡◌, inl, inr, ℕ, List, Option, Some, None, refl, sym, ◌∙◌, ap, subst, Contains}
+use Rattle.std.proofs.Common.{◌≡◌, inl, inr, List, Option, Some, None, refl, sym, subst}
 use Rattle.std.specs.Prelude.{IfErr, IfOk, IfSome, OnOk, Result, Ok, Err, option_map}
-use Rattle.fields.specs.Fits.{Fits}
 use Rattle.http_front.specs.declared.request.Request.{Request}
-use Rattle.http_front.specs.declared.request.Verb.TheVariants.{Get}
 use Rattle.object_state.specs.State.{IsNext, State}
 use Rattle.object_state.specs.declared.object.Change.{Change}
-use Rattle.object_state.specs.declared.object.Object.{Object}
 use Rattle.release_view.specs.Spelling.{SpellAlike}
 use Rattle.release_view.specs.declared.known.KnownVersion.{KnownVersion}
 use Rattle.request_body.specs.Places.{Place, place_seen}

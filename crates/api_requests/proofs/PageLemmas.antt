@@ -1,9 +1,9 @@
 -- What is read: pages, lists and objects.
-use Rattle.std.proofs.Common.{◌≡◌, ◌≢◌, ◌⊎◌, inl, inr, ℕ, List, [], ◌∷◌, ◌++◌, Bool, true, false, cond, All, Option, Some, None, refl, sym, ◌∙◌, ap, subst}
+use Rattle.std.proofs.Common.{◌≡◌, ◌≢◌, inr, ℕ, List, [], ◌∷◌, ◌++◌, Bool, true, false, Option, Some, None, refl, sym, ◌∙◌, ap, subst}
 use Rattle.std.specs.Prelude.{IsSome, MatchOption, is_some, if◌then◌else◌, option_map, option_and_then}
 use Rattle.discovery.specs.Groups.{group_page as page_of_group}
 use Rattle.discovery.specs.Resources.{resource_list_page}
-use Rattle.http_front.specs.Routes.{RouteName, version_page, metrics_page, group_list, group_page, resource_list, all_objects, objects_inside, one_object, IsRouteOf}
+use Rattle.http_front.specs.Routes.{RouteName, version_page, metrics_page, group_list, group_page, resource_list, all_objects, objects_inside, one_object}
 use Rattle.http_front.specs.declared.request.Request.{Request}
 use Rattle.http_front.specs.declared.request.Verb.{Verb}
 use Rattle.http_front.specs.declared.request.Verb.TheVariants.{Get, Post}
@@ -12,7 +12,7 @@ use Rattle.object_state.specs.Objects.{Holds}
 use Rattle.object_state.specs.State.{State}
 use Rattle.object_state.specs.declared.object.Object.{Object}
 use Rattle.release_view.specs.Views.{Viewed}
-use Rattle.request_body.specs.Places.{IsNameFor, IsNamedByBody, Place, key_at, key_of, place_of}
+use Rattle.request_body.specs.Places.{IsNameFor, IsNamedByBody, Place, key_of, place_of}
 use Rattle.request_body.specs.Writes.{GivesFields, GoesByBody}
 use Rattle.request_target.specs.Targets.{AsksFor, Asked, Resource, asked_in, fits_scope, inside_scope, object_in_scope, releases, gates, groups, group, resource_in, resources, everywhere, inside, object}
 use Rattle.api_requests.proofs.OrderLemmas.{one_more, passed_more, passes_head_cases}
@@ -20,7 +20,7 @@ use Rattle.api_requests.proofs.PassLemmas.{bare_meant_passed, bare_passed, no_fi
 use Rattle.api_requests.specs.Calls.{PassedAt, ShowsObject, field_cases, full_cases, head_cases, object_cases}
 use Rattle.api_requests.specs.Heads.{PassesHead}
 use Rattle.api_requests.specs.Reading.{HasPage, ReadsPage}
-use Rattle.api_requests.specs.Refusals.{IsNotRefused, Passes, Refusal, WouldChange, last_reached, not_served, not_allowed, bad_query, no_length, too_large, bad_body, bad_member, bad_field, no_object, object_exists, conflict, missing_field, store_full, refusals}
+use Rattle.api_requests.specs.Refusals.{IsNotRefused, Passes, WouldChange, last_reached, bad_body, bad_member, bad_field, no_object, object_exists, conflict, missing_field, store_full, refusals}
 use Rattle.api_requests.specs.Steps.{IsRead}
 use Rattle.api_requests.specs.declared.answer.Answer.{Answer}
 use Rattle.api_requests.specs.declared.machine.Machine.{Machine}

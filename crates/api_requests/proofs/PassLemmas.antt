@@ -1,7 +1,7 @@
 -- The refusals of a request for objects, one after the other: each is refused behind those that it passed, or passed itself.
-use Rattle.std.proofs.Common.{◌≡◌, ◌≢◌, ◌⊎◌, inl, inr, ℕ, ◌+◌, ◌<◌, ◌≤◌, List, [], ◌∷◌, ◌++◌, All, Option, Some, None, Bool, true, false, refl, sym, ◌∙◌, ap, subst, drop, arith, codes}
-use Rattle.std.specs.Prelude.{IsSome, IsSomeAnd, MatchOption, option_map}
-use Rattle.conversion.proofs.ReadLemmas.{faultless, reads_as_one}
+use Rattle.std.proofs.Common.{◌≡◌, ◌≢◌, ℕ, ◌<◌, ◌≤◌, List, [], ◌∷◌, ◌++◌, All, Option, Some, None, true, false, refl, sym, ◌∙◌, ap, subst, drop, arith, codes}
+use Rattle.std.specs.Prelude.{IsSome, MatchOption}
+use Rattle.conversion.proofs.ReadLemmas.{faultless}
 use Rattle.conversion.proofs.TreeLemmas.{some_one}
 use Rattle.conversion.specs.Reading.{IsFirstFault, Reads}
 use Rattle.conversion.specs.Trees.{Names}
@@ -12,23 +12,22 @@ use Rattle.fields.specs.declared.map.FieldPair.{FieldPair}
 use Rattle.fields.specs.declared.table.FieldRow.{FieldRow}
 use Rattle.http_front.specs.declared.request.Request.{Request}
 use Rattle.http_front.specs.declared.request.Verb.{Verb}
-use Rattle.http_front.specs.declared.request.Verb.TheVariants.{Get, Post, Put, Delete, Patch, Head, Other}
+use Rattle.http_front.specs.declared.request.Verb.TheVariants.{Post}
 use Rattle.object_journal.specs.Journal.{most_keys, last_revision}
-use Rattle.object_journal.specs.declared.key.Key.{Key}
-use Rattle.object_state.specs.Objects.{Finds, HasKey, Holds}
+use Rattle.object_state.specs.Objects.{HasKey, Holds}
 use Rattle.object_state.specs.State.{State}
 use Rattle.object_state.specs.declared.object.Object.{Object}
 use Rattle.request_body.proofs.GivenLemmas.{no_misfit as none_misfit}
 use Rattle.request_body.specs.Members.{FitsMember, IsMisfit, members_of}
 use Rattle.request_body.specs.Places.{IsAbout, IsNamedByBody, IsNameFor, Place, given_in, key_of, place_of}
-use Rattle.request_body.specs.Writes.{AreGiven, GivesFields, GoesByBody, HasTree, IsFirstMissing, IsMeantForAnother, IsProvided}
+use Rattle.request_body.specs.Writes.{AreGiven, GivesFields, GoesByBody, HasTree, IsFirstMissing, IsMeantForAnother}
 use Rattle.request_body.specs.declared.member.Member.{Member}
 use Rattle.request_target.specs.Targets.{Asked}
 use Rattle.serde_json.specs.Data.{Data, string}
 use Rattle.serde_json.specs.Read.{read}
 use Rattle.api_requests.proofs.OrderLemmas.{head_passed, passed_more, refused_at}
-use Rattle.api_requests.specs.Calls.{IsAskedAt, IsRefusedAt, PassedAt, conflict_cases, field_cases, full_cases, head_cases, member_cases, missing_cases, object_cases}
-use Rattle.api_requests.specs.Refusals.{Passes, Refusal, WouldChange, bad_body, bad_body_answer, bad_field, bad_field_answer, bad_member, bad_member_answer, conflict, conflict_answer, ended_answer, exists_answer, full_answer, last_reached, missing_answer, missing_field, no_object, no_object_answer, object_exists, refusals, store_full}
+use Rattle.api_requests.specs.Calls.{IsRefusedAt, PassedAt, conflict_cases, field_cases, full_cases, head_cases, member_cases, missing_cases, object_cases}
+use Rattle.api_requests.specs.Refusals.{Passes, WouldChange, bad_body, bad_body_answer, bad_field, bad_field_answer, bad_member, bad_member_answer, conflict, conflict_answer, ended_answer, exists_answer, full_answer, last_reached, missing_answer, missing_field, no_object, no_object_answer, object_exists, refusals, store_full}
 use Rattle.api_requests.specs.declared.answer.Answer.{Answer}
 
 pub same_tree : (text : List ℕ) (a b : Data) → IsTextOf text a → IsTextOf text b → a ≡ b

@@ -1,7 +1,6 @@
 -- What holds of the place that a request asks for.
-use Rattle.std.proofs.Common.{◌≡◌, ◌≢◌, ◌⊎◌, inl, inr, ℕ, List, [], ◌∷◌, Bool, true, false, cond, Option, Some, None, refl, sym, ◌∙◌, ap, subst, Contains}
-use Rattle.std.specs.Prelude.{IfSome, IsSome, if◌then◌else◌}
-use Rattle.std.specs.Str.{IsUtf8}
+use Rattle.std.proofs.Common.{◌≡◌, inl, inr, ℕ, List, [], Bool, true, false, Some, None, refl, sym, ◌∙◌, ap, subst}
+use Rattle.std.specs.Prelude.{if◌then◌else◌}
 use Rattle.std.proofs.lemmas.Str.{IsUtf8-nil}
 use Rattle.conversion.proofs.FaultLemmas.{fits_alike}
 use Rattle.fields.specs.Fits.{Fits}
@@ -9,7 +8,7 @@ use Rattle.fields.specs.declared.map.FieldPair.{FieldPair}
 use Rattle.fields.specs.declared.table.VersionTable.{VersionTable}
 use Rattle.http_front.specs.declared.request.Request.{Request}
 use Rattle.http_front.specs.declared.request.Verb.{Verb}
-use Rattle.http_front.specs.declared.request.Verb.TheVariants.{Get, Post, Put, Delete, Patch, Head, Other}
+use Rattle.http_front.specs.declared.request.Verb.TheVariants.{Get, Post}
 use Rattle.object_journal.specs.declared.key.Key.{Key}
 use Rattle.object_pages.proofs.FittingLemmas.{held_fits}
 use Rattle.object_pages.specs.Fitting.{FitVersions}
@@ -18,14 +17,12 @@ use Rattle.object_state.specs.State.{State}
 use Rattle.object_state.specs.declared.object.Change.{Change}
 use Rattle.object_state.specs.declared.object.Object.{Object}
 use Rattle.object_state.specs.declared.object.Stored.{Stored}
-use Rattle.release_view.specs.Served.{shown}
 use Rattle.release_view.specs.Spelling.{SpellAlike}
 use Rattle.release_view.specs.declared.known.KnownVersion.{KnownVersion}
 use Rattle.release_view.specs.declared.served.ServedVersion.{ServedVersion}
 use Rattle.request_body.specs.Places.{Place, place_of}
 use Rattle.request_target.specs.Methods.{Allows, methods}
-use Rattle.request_target.specs.declared.target.Methods.{Methods}
-use Rattle.request_target.specs.declared.target.Methods.TheVariants.{Read, Collection, Single}
+use Rattle.request_target.specs.declared.target.Methods.TheVariants.{Read, Collection}
 use Rattle.request_target.specs.Targets.{Asked, Resource, releases, gates, groups, group, resources, everywhere, inside, object}
 use Rattle.request_target.specs.Told.{IsResourceIn, IsTold}
 use Rattle.api_requests.proofs.PassLemmas.{same_place}

@@ -1,5 +1,5 @@
 -- What becomes of a request.
-use Rattle.std.specs.Prelude.{◌≡◌, Option, Some, IfSome}
+use Rattle.std.specs.Prelude.{◌≡◌, Option, Some}
 use Rattle.http_front.specs.declared.request.Request.{Request}
 use Rattle.object_state.specs.State.{State}
 use Rattle.request_target.specs.Targets.{AsksFor, Asked}

@@ -1,5 +1,6 @@
 -- What follows from the meaning of a request.
-use Rattle.std.specs.Prelude.{◌≡◌, ◌≢◌, ◌⊎◌, ◌↔◌, ◌+◌, ◌-◌, Option}
+use Rattle.std.specs.Prelude.{◌≡◌, ◌≢◌, ◌⊎◌, ◌↔◌, ◌+◌, ◌-◌, Option, Contains}
+use Rattle.http_front.specs.Replies.{reply_codes}
 use Rattle.http_front.specs.declared.reply.Reply.{Reply}
 use Rattle.http_front.specs.declared.request.Request.{Request}
 use Rattle.http_front.specs.declared.request.Verb.TheVariants.{Get, Post, Put, Delete}
@@ -8,9 +9,11 @@ use Rattle.object_state.specs.Objects.{Holds}
 use Rattle.object_state.specs.State.{State}
 use Rattle.object_state.specs.declared.object.Object.{Object}
 use Rattle.request_target.specs.Targets.{Asked}
+use Rattle.api_requests.specs.Deciding.{IsDecided}
 use Rattle.api_requests.specs.Refusals.{IsNotRefused, IsRefused}
 use Rattle.api_requests.specs.Steps.{Step}
 use Rattle.api_requests.specs.declared.answer.Answer.{Answer}
+use Rattle.api_requests.specs.declared.decision.Decided.{Decided}
 use Rattle.api_requests.specs.declared.machine.Machine.{Machine}
 
 -- the request isn't both refused and granted, and where it is refused it has one answer
@@ -53,3 +56,9 @@ pub record CountsRecords (m : Machine) (s : State) (q : Request) : Type 0 where
       → q.verb ≡ Put → after.records ≡ s.records
   pub deleted : (reply : Reply) (after : State) → Step m s q reply after → after ≢ s
       → q.verb ≡ Delete → after.records ≡ s.records - 1
+
+-- the code of the reply is one of those that replies have
+pub record HasKnownCode (m : Machine) (s : State) (q : Request) : Type 0 where
+  pub decided : (d : Decided) → IsDecided m s q d → Contains reply_codes d.reply.code
+  pub replied : (reply : Reply) (after : State) → Step m s q reply after
+      → Contains reply_codes reply.code

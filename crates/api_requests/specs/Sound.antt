@@ -1,6 +1,6 @@
 -- What a change of the state keeps: objects fit the versions of their resources, and a store stays
 -- within its limits.
-use Rattle.std.specs.Prelude.{◌≡◌, ◌<◌, ℕ, List, Some, None, Contains}
+use Rattle.std.specs.Prelude.{◌≡◌, ◌<◌, List, Some, None, Contains}
 use Rattle.fields.specs.Fits.{Fits}
 use Rattle.fields.specs.declared.map.FieldPair.{FieldPair}
 use Rattle.object_journal.specs.Journal.{most_keys, last_revision}

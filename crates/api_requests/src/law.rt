@@ -1,6 +1,6 @@
 //! What follows from the meaning of a request, each law as the contract of a function that does
 //! nothing.
-ghost use Rattle.api_requests.specs.Laws.{ChangesOneKey, CountsRecords, HasOneStep, HasOneVerdict, LeavesState};
+ghost use Rattle.api_requests.specs.Laws.{ChangesOneKey, CountsRecords, HasKnownCode, HasOneStep, HasOneVerdict, LeavesState};
 
 use crate::machine::Machine;
 use http_front::Request;
@@ -45,6 +45,15 @@ pub fn request_changes_one_key(machine: &Machine, state: &State, request: &Reque
 /// A creation makes one record more, a deletion one less, and new fields leave their count.
 pub fn request_counts_records(machine: &Machine, state: &State, request: &Request)
     ensures { CountsRecords machine.now state.now.state request.now }
+{
+    let _machine = machine;
+    let _state = state;
+    let _request = request;
+}
+
+/// The code of a reply is one of those that replies have.
+pub fn request_has_known_code(machine: &Machine, state: &State, request: &Request)
+    ensures { HasKnownCode machine.now state.now.state request.now }
 {
     let _machine = machine;
     let _state = state;

@@ -1,4 +1,4 @@
-use Rattle.std.proofs.Common.{◌≡◌, ◌∙◌, subst, sym}
+use Rattle.std.proofs.Common.{◌≡◌, ◌∙◌, sym}
 use Rattle.http_front.specs.declared.request.Verb.TheVariants.{Post, Put}
 use Rattle.request_body.specs.Places.{place_seen}
 use Rattle.api_requests.proofs.KeyLemmas.{changes_object, refuted, unchanged_object}

@@ -1,4 +1,4 @@
-use Rattle.std.proofs.Common.{ℕ, List, ◌∙◌, ap}
+use Rattle.std.proofs.Common.{◌∙◌}
 use Rattle.request_body.specs.Places.{place_seen}
 use Rattle.api_requests.proofs.KeyLemmas.{complete_object, lacking_object}
 use Rattle.api_requests.specs.Refusals.{missing_answer}

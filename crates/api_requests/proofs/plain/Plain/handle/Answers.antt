@@ -1,4 +1,4 @@
-use Rattle.std.proofs.Common.{Option, Some, None, ap, refl, subst, sym}
+use Rattle.std.proofs.Common.{Option, ap, refl, subst, sym}
 use Rattle.object_state.specs.State.{IsApplied, IsNext, State, StateRecord}
 use Rattle.object_state.specs.declared.object.Change.{Change}
 use Rattle.api_requests.proofs.KeptLemmas.{kept_after}
