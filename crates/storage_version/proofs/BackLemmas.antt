@@ -1,5 +1,5 @@
 -- Records that an earlier release reads stand under it for what it knows of a state.
-use Rattle.std.proofs.Common.{◌≡◌, ◌↔◌, ℕ, true, List, [], ◌∷◌, ◌++◌, map, Some, Contains, refl, sym, ◌∙◌, ap, subst, bytes_eq}
+use Rattle.std.proofs.Common.{◌≡◌, ◌↔◌, ℕ, true, List, [], ◌∷◌, ◌++◌, map, Some, Contains, refl, sym, ◌∙◌, ap, subst, bytes_eq, ◌+◌, ◌≤◌, arith}
 use Rattle.std.specs.Prelude.{option_map, codes, filter}
 use Rattle.std.specs.List.{list_any}
 use Rattle.std.proofs.lemmas.List.{append_cancel_left}
@@ -23,14 +23,15 @@ use Rattle.release_view.specs.Known.{name_of, table_name}
 use Rattle.release_view.specs.Later.{AreOfOneHistory, ReadsLive, ReadsLiveOf}
 use Rattle.release_view.specs.Laws.{FindsEach}
 use Rattle.release_view.specs.Spelling.{SpellAlike}
-use Rattle.release_view.specs.Views.{Viewed, table_in, best_table_in, is_live_of, is_of_resource, IsOfResource}
+use Rattle.release_view.specs.Views.{Viewed, IsViewOf, IsViewByTexts, table_in, best_table_in, is_live_of, is_of_resource, IsOfResource}
 use Rattle.release_view.specs.declared.known.KnownVersion.{KnownVersion}
 use Rattle.release_view.proofs.ListLemmas.{some_is}
 use Rattle.release_view.proofs.LookupLemmas.{of_resource}
 use Rattle.schemas.specs.Dated.{Dated}
+use Rattle.schemas.specs.Rules.{IsAccepted}
 use Rattle.serde_json.specs.Data.{Data}
 use Rattle.storage_version.specs.Bodies.{IsNamed, IsObjectRead, IsBodyRead}
-use Rattle.storage_version.specs.Laws.{FitsStorage, StandsWhereReadable}
+use Rattle.storage_version.specs.Laws.{FitsStorage, MakeOneHistory, ReadsFitting, ReadsFittingStorage, StandsWhereReadable}
 use Rattle.storage_version.specs.Standing.{IsLive, IsReadAs, HasRecord, StandsFor, AreReadable, known_object, known_of, known_part}
 use Rattle.storage_version.proofs.KnownLemmas.{IsKnownAs, known_holds, known_order, known_objects, best_of_live, live_of_best}
 use Rattle.storage_version.proofs.ReadLemmas.{known_by, named_version, named_text, one_tree}
@@ -43,6 +44,32 @@ fits_storage back versions alike = λ v held table there fits stored.
     let w = stored_version back versions v.table.group v.table.resource table stored in
     subst (λ (t : VersionTable). Fits t.rows held) w.is
     (fits_alike v.table.rows w.version.table.rows held (alike v w.version there w.among (sym w.of_group) (sym w.of_resource)) fits)
+
+pub reads_fitting_storage : (back versions : List KnownVersion) → ReadsFitting versions → ReadsFittingStorage back versions
+reads_fitting_storage back versions fitting = λ group resource body held table read stored.
+    let w = stored_version back versions group resource table stored in
+    let of_group = subst (λ g. IsBodyRead versions g resource body held) (sym w.of_group) read in
+    let of_both = subst (λ r. IsBodyRead versions w.version.table.group r body held) (sym w.of_resource) of_group in
+    subst (λ (t : VersionTable). Fits t.rows held) w.is (fitting w.version body held w.among of_both)
+
+-- ---- views that texts make
+
+view_of : (h : Dated) (e : ℕ) (features config : List ℕ) (v : Viewed) → (by : IsViewByTexts h e features config v) → IsViewOf h v.minor v.gates by.on v
+view_of h e features config v by = subst (λ n. IsViewOf h n v.gates by.on v) (sym by.viewed.of_minor) by.viewed
+
+pub make_one_history : (h : Dated) → IsAccepted h → (back view : Viewed) → MakeOneHistory h back view
+make_one_history h accepted back view = λ m e features config later_features later_config was is le near.
+    let first : back.minor ≡ m = was.viewed.of_minor in
+    let second : view.minor ≡ e = is.viewed.of_minor in
+    record {
+      accepted = accepted;
+      back_on = was.on;
+      of_back = view_of h m features config back was;
+      on = is.on;
+      of_view = view_of h e later_features later_config view is;
+      not_above = omega (arith, first, second, le);
+      near = omega (arith, first, second, near);
+    }
 
 -- ---- versions by their texts
 

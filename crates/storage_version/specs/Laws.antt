@@ -1,5 +1,5 @@
 -- What follows from the definitions of what is stored and what is read.
-use Rattle.std.specs.Prelude.{◌≡◌, ◌≤◌, ℕ, List, Some, Contains}
+use Rattle.std.specs.Prelude.{◌≡◌, ◌≤◌, ◌+◌, ℕ, List, Some, Contains}
 use Rattle.fields.specs.Fits.{Fits, restricted}
 use Rattle.fields.specs.declared.map.FieldPair.{FieldPair}
 use Rattle.fields.specs.declared.table.VersionTable.{VersionTable}
@@ -9,7 +9,7 @@ use Rattle.object_state.specs.declared.object.Change.{Change}
 use Rattle.object_store.specs.Records.{AreInKeyOrder, IsChanged}
 use Rattle.object_store.specs.declared.item.Item.{Item}
 use Rattle.release_view.specs.Later.{AreOfOneHistory}
-use Rattle.release_view.specs.Views.{Viewed, best_table_in}
+use Rattle.release_view.specs.Views.{Viewed, IsViewByTexts, best_table_in}
 use Rattle.release_view.specs.declared.known.KnownVersion.{KnownVersion}
 use Rattle.schemas.specs.Dated.{Dated}
 use Rattle.storage_version.specs.Bodies.{IsBodyOf, IsBodyRead}
@@ -51,6 +51,19 @@ FitsStorage back versions = (v : KnownVersion) (held : List FieldPair) (table : 
     → Contains versions v → Fits v.table.rows held
     → storage_table_in back versions v.table.group v.table.resource ≡ Some table
     → Fits table.rows held
+
+-- and so does what the release reads of a body of the resource
+abbrev pub ReadsFittingStorage : List KnownVersion → List KnownVersion → Type 0
+ReadsFittingStorage back versions = (group resource body : List ℕ) (held : List FieldPair)
+    (table : VersionTable) → IsBodyRead versions group resource body held
+    → storage_table_in back versions group resource ≡ Some table → Fits table.rows held
+
+-- views of a history that texts make are of one history, where their releases aren't far apart
+abbrev pub MakeOneHistory : Dated → Viewed → Viewed → Type 0
+MakeOneHistory history back view = (m e : ℕ) (features config later_features later_config : List ℕ)
+    → IsViewByTexts history m features config back
+    → IsViewByTexts history e later_features later_config view
+    → m ≤ e → e ≤ m + 3 → AreOfOneHistory history back view
 
 -- ---- records and states
 

@@ -1,7 +1,8 @@
 //! What follows from the definitions, each as the contract of a function that does nothing.
-ghost use Rattle.storage_version.specs.Laws.{ReadsOwn, ReadsKnown, ReadsOnce, ReadsFitting, FitsStorage, StandsForOne, StandsWhereReadable, GoesOnStanding, KeepsRecords};
+ghost use Rattle.storage_version.specs.Laws.{ReadsOwn, ReadsKnown, ReadsOnce, ReadsFitting, FitsStorage, ReadsFittingStorage, MakeOneHistory, StandsForOne, StandsWhereReadable, GoesOnStanding, KeepsRecords};
 
 use release_view::{View, later_view_reads_live, view_finds_each, view_is_kept, view_tells_tables};
+use schemas::Accepted;
 
 /// What is stored in a version that a release reads is read by it as the same fields; and what it reads of a resource fits
 /// each version of that which it reads.
@@ -32,12 +33,23 @@ pub fn body_has_one_reading(view: &View)
     let _view = view;
 }
 
-/// What fits a version of a resource fits its storage version.
+/// What fits a version of a resource fits its storage version, and so does what the release reads of a stored body.
 pub fn what_fits_is_stored(back: &View, view: &View)
-    ensures { FitsStorage back.now.versions view.now.versions }
+    ensures fits { FitsStorage back.now.versions view.now.versions }
+    ensures read { ReadsFittingStorage back.now.versions view.now.versions }
 {
     view_is_kept(view);
+    release_reads_own(view);
     let _back = back;
+}
+
+/// Views of an accepted history that texts make, of releases at most three apart, are views of one history.
+pub fn views_are_of_one_history(a: &Accepted, back: &View, view: &View)
+    ensures { MakeOneHistory a.now back.now view.now }
+{
+    let _history = a.history();
+    let _back = back;
+    let _view = view;
 }
 
 /// Records stand for one state at most.
