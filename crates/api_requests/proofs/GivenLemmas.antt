@@ -1,5 +1,5 @@
 -- What a request passes as it gives an object one map of fields, and as a key holds one object.
-use Rattle.std.proofs.Common.{◌≡◌, ℕ, List, All, true, false, Option, Some, None, refl, sym, ◌∙◌, ap, subst}
+use Rattle.std.proofs.Common.{◌≡◌, ℕ, List, All, true, false, Option, Some, None, sym, ◌∙◌, ap, subst}
 use Rattle.std.specs.Prelude.{IsSome}
 use Rattle.basis.proofs.FirstLemmas.{first_refutes}
 use Rattle.fields.specs.Map.{value_at}

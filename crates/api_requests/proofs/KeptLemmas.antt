@@ -14,16 +14,17 @@ use Rattle.object_state.specs.declared.object.Object.{Object}
 use Rattle.object_state.specs.declared.object.Stored.{Stored}
 use Rattle.release_view.specs.declared.known.KnownVersion.{KnownVersion}
 use Rattle.api_requests.specs.Kept.{IsKept}
-use Rattle.api_requests.specs.Sound.{IsSound, IsWithin}
+use Rattle.api_requests.specs.Sound.{FitsEach, IsSound, IsWithin}
 use Rattle.api_requests.specs.declared.machine.Machine.{Machine}
 
 -- ---- fields
 
-module _ (versions : List KnownVersion) (old new : State) (change : Change) (fit : FitVersions versions old.objects) (sound : IsSound versions old change) (applied : IsApplied old change new) where
+module _ (versions : List KnownVersion) (old new : State) (change : Change) (fit : FitVersions versions old.objects)
+    (fits : (object : Object) → change.object ≡ Some object → FitsEach versions change.key object.fields) (applied : IsApplied old change new) where
   fits_now : (v : KnownVersion) (x : Stored) → Contains versions v → x.key.group ≡ v.table.group → x.key.resource ≡ v.table.resource
       → ((x.key ≡ change.key) × (change.object ≡ Some x.object)) ⊎ ((x.key ≢ change.key) × Holds old.objects x.key x.object) → Fits v.table.rows x.object.fields
   fits_now v x among group resource (inl h) =
-      sound.fits x.object h.1 v among (sym group ∙ ap (λ (k : Key). k.group) h.0) (sym resource ∙ ap (λ (k : Key). k.resource) h.0)
+      fits x.object h.1 v among (sym group ∙ ap (λ (k : Key). k.group) h.0) (sym resource ∙ ap (λ (k : Key). k.resource) h.0)
   fits_now v x among group resource (inr h) =
       All-contains (λ (y : Stored). y.key.group ≡ v.table.group → y.key.resource ≡ v.table.resource → Fits v.table.rows y.object.fields) old.objects x
       (All-contains (λ (w : KnownVersion). AreFitting w.table old.objects) versions v fit among) h.1 group resource
@@ -68,7 +69,7 @@ kept_after m old new change order kept sound applied =
     let next : new.revision ≡ old.revision + 1 = applied.revision in
     let more : old.revision < last_revision = sound.within.more in
     record {
-      fits = fit_after m.view.versions old new change kept.fits sound applied;
+      fits = fit_after m.view.versions old new change kept.fits sound.fits applied;
       counted = count.0;
       few = count.1;
       low = omega arith;

@@ -20,16 +20,16 @@ use Rattle.api_requests.specs.declared.machine.Machine.{Machine}
 pub left : (s after : State) (c : Option Change) → c ≡ None → IsNext s c after → after ≡ s
 left s after c none next = subst (λ (z : Option Change). IsNext s z after) none next
 
-same_change : (a b : Change) → Some a ≡ Some b → a ≡ b
+pub same_change : (a b : Change) → Some a ≡ Some b → a ≡ b
 same_change a b e = cc
 
 same_object : (a b : Object) → Some a ≡ Some b → a ≡ b
 same_object a b e = cc
 
-no_object_here : (a : Object) → None ≡ Some a → ⊥
+pub no_object_here : (a : Object) → None ≡ Some a → ⊥
 no_object_here a e = cc
 
-no_change_here : (a : Change) → None ≡ Some a → ⊥
+pub no_change_here : (a : Change) → None ≡ Some a → ⊥
 no_change_here a e = cc
 
 module _ (s : State) where
@@ -55,7 +55,7 @@ module _ (s : State) where
 
   -- ---- one key
 
-  made_at : (key : Key) (made object : Object) (c : Option Change) (change : Change) → c ≡ Some (record { key = key; object = Some made }) → c ≡ Some change → change.object ≡ Some object → made ≡ object
+  pub made_at : (key : Key) (made object : Object) (c : Option Change) (change : Change) → c ≡ Some (record { key = key; object = Some made }) → c ≡ Some change → change.object ≡ Some object → made ≡ object
   made_at key made object c change is of there =
       let e : record { key = key; object = Some made } ≡ change = same_change (record { key = key; object = Some made }) change (sym is ∙ of) in
       same_object made object (ap (λ (z : Change). z.object) e ∙ there)

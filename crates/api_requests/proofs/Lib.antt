@@ -11,3 +11,4 @@ pub mod CountLemmas
 pub mod KeyLemmas
 pub mod OutcomeLemmas
 pub mod CodeLemmas
+pub mod FittingLemmas

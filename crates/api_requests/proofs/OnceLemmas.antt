@@ -8,10 +8,8 @@ use Rattle.conversion.specs.declared.mode.Mode.TheVariants.{Body}
 use Rattle.fields.specs.declared.map.FieldPair.{FieldPair}
 use Rattle.fields.specs.declared.table.FieldRow.{FieldRow}
 use Rattle.http_front.specs.declared.request.Request.{Request}
-use Rattle.object_journal.specs.declared.key.Key.{Key}
-use Rattle.object_state.specs.Objects.{AreInKeyOrder, Holds}
+use Rattle.object_state.specs.Objects.{AreInKeyOrder}
 use Rattle.object_state.specs.State.{State}
-use Rattle.object_state.specs.declared.object.Object.{Object}
 use Rattle.request_body.proofs.GivenLemmas.{misses_once, one_misfit}
 use Rattle.request_body.proofs.RequestLemmas.{given_once}
 use Rattle.request_body.specs.Members.{IsMisfit}

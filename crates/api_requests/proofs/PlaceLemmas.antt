@@ -31,13 +31,13 @@ use Rattle.api_requests.specs.Heads.{PassesHead}
 use Rattle.api_requests.specs.Reading.{ReadsPage}
 use Rattle.api_requests.specs.Sound.{FitsEach, IsSound, IsWithin}
 
-abbrev at_all : Resource → Place
+abbrev pub at_all : Resource → Place
 at_all of = record { of = of; namespace = []; own = None }
 
-abbrev at_inside : Resource → List ℕ → Place
+abbrev pub at_inside : Resource → List ℕ → Place
 at_inside of namespace = record { of = of; namespace = namespace; own = None }
 
-abbrev at_object : Resource → List ℕ → List ℕ → Place
+abbrev pub at_object : Resource → List ℕ → List ℕ → Place
 at_object of namespace name = record { of = of; namespace = namespace; own = Some name }
 
 some_same : (x y : Place) → Some x ≡ Some y → x ≡ y

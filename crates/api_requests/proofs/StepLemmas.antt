@@ -10,7 +10,7 @@ use Rattle.object_journal.specs.declared.key.Key.{Key}
 use Rattle.object_pages.proofs.PageLemmas.{one_page}
 use Rattle.object_pages.specs.Documents.{IsShown, listed}
 use Rattle.object_state.proofs.StateLemmas.{one_object, one_state}
-use Rattle.object_state.specs.Objects.{AreInKeyOrder, Holds}
+use Rattle.object_state.specs.Objects.{AreInKeyOrder}
 use Rattle.object_state.specs.State.{State, IsNext}
 use Rattle.object_state.specs.declared.object.Change.{Change}
 use Rattle.object_state.specs.declared.object.Object.{Object}

@@ -5,6 +5,7 @@ use Rattle.http_front.specs.declared.reply.Reply.{Reply}
 use Rattle.http_front.specs.declared.request.Request.{Request}
 use Rattle.http_front.specs.declared.request.Verb.TheVariants.{Get, Post, Put, Delete}
 use Rattle.object_journal.specs.declared.key.Key.{Key}
+use Rattle.object_pages.specs.Fitting.{FitVersions}
 use Rattle.object_state.specs.Objects.{Holds}
 use Rattle.object_state.specs.State.{State}
 use Rattle.object_state.specs.declared.object.Object.{Object}
@@ -23,7 +24,7 @@ pub record HasOneVerdict (s : State) (q : Request) : Type 0 where
   pub one : (asked : Option Asked) (answer other : Answer)
       → IsRefused s q asked answer → IsRefused s q asked other → answer ≡ other
 
--- the request has one reply, and leaves one state
+-- the request has at most one reply, and leaves at most one state
 abbrev pub HasOneStep : Machine → State → Request → Type 0
 HasOneStep m s q = (reply other : Reply) (after later : State)
     → Step m s q reply after → Step m s q other later → (reply ≡ other) × (after ≡ later)
@@ -62,3 +63,8 @@ pub record HasKnownCode (m : Machine) (s : State) (q : Request) : Type 0 where
   pub decided : (d : Decided) → IsDecided m s q d → Contains reply_codes d.reply.code
   pub replied : (reply : Reply) (after : State) → Step m s q reply after
       → Contains reply_codes reply.code
+
+-- the objects go on fitting each version of their resources that the view has
+abbrev pub GoesOnFitting : Machine → State → Request → Type 0
+GoesOnFitting m s q = (reply : Reply) (after : State) → FitVersions m.view.versions s.objects
+    → Step m s q reply after → FitVersions m.view.versions after.objects

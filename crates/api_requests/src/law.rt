@@ -1,10 +1,11 @@
 //! What follows from the meaning of a request, each law as the contract of a function that does
 //! nothing.
-ghost use Rattle.api_requests.specs.Laws.{ChangesOneKey, CountsRecords, HasKnownCode, HasOneStep, HasOneVerdict, LeavesState};
+ghost use Rattle.api_requests.specs.Laws.{ChangesOneKey, CountsRecords, GoesOnFitting, HasKnownCode, HasOneStep, HasOneVerdict, LeavesState};
 
 use crate::machine::Machine;
 use http_front::Request;
 use object_state::State;
+use release_view::{view_finds_each, view_is_kept};
 use request_target::path_asks_for_one;
 
 /// A request isn't both refused and granted, and where it is refused it has one answer.
@@ -58,4 +59,14 @@ pub fn request_has_known_code(machine: &Machine, state: &State, request: &Reques
     let _machine = machine;
     let _state = state;
     let _request = request;
+}
+
+/// Through each request the objects go on fitting every version of their resources that the view has.
+pub fn request_keeps_fitting(machine: &Machine, state: &State, request: &Request)
+    ensures { GoesOnFitting machine.now state.now.state request.now }
+{
+    let _state = state;
+    let _request = request;
+    view_finds_each(&machine.view);
+    view_is_kept(&machine.view);
 }
