@@ -1,23 +1,6 @@
--- Answers: answers to requests, and the replies that carry them.
--- Refusals: one list of cases, each with its condition and its answer. The first whose condition
---   holds is the answer.
--- Steps: what one request means: its reply, and the state after it.
--- Laws: what follows from the meaning of a request.
--- Heads: what is known of a request once its head was looked at.
--- Reading: what is read of the state and of the release.
--- Sound: what a change of the state keeps: objects fit the versions of their resources, and a store
---   stays within its limits.
--- Calls: a request for objects at a place, and the state that it finds, on its way through the
---   refusals.
--- Deciding: what becomes of a request.
--- Kept: a machine in memory, as its type keeps it.
-pub mod Answers
-pub mod Refusals
-pub mod Steps
-pub mod Laws
-pub mod Heads
-pub mod Reading
-pub mod Sound
-pub mod Calls
-pub mod Deciding
-pub mod Kept
+-- Serving: a server over a store, as contracts see it, and what its type keeps.
+-- Prepared: a request whose reply is made and whose change can be stored.
+-- Finishing: what a request leaves of the server, and what a stop during it may leave on the disk.
+pub mod Serving
+pub mod Prepared
+pub mod Finishing

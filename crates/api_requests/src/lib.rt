@@ -1,23 +1,12 @@
-//! What one request means: its reply, and the state after it.
+//! A server over a store: each request is one step of the plain machine, and its records are kept so that an earlier release
+//! finds the same objects.
 #![tactic(auto)]
 
-mod answer;
-mod call;
-mod decision;
-mod head;
-mod law;
-mod machine;
-mod outcome;
-mod plain;
-mod read;
-mod stop;
-mod write;
+mod fault;
+mod prepared;
+mod service;
 
-pub use decision::Decided;
-pub use law::{
-    refused_request_leaves_state, request_changes_one_key, request_counts_records,
-    request_has_known_code, request_has_one_step, request_has_one_verdict, request_keeps_fitting,
-};
-pub use machine::Machine;
-pub use outcome::decide;
-pub use plain::Plain;
+pub use fault::HandleFault;
+pub use prepared::Prepared;
+pub use service::{Service, start};
+pub use stored_state::StartFault;

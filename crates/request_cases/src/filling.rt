@@ -1,6 +1,6 @@
 //! Many objects in a server.
 use crate::requests::request;
-use api_requests::Plain;
+use plain_machine::Plain;
 use basis::Memory;
 use std::alloc::Global;
 

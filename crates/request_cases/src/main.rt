@@ -7,7 +7,7 @@ mod replies;
 mod requests;
 mod servers;
 
-use api_requests::Plain;
+use plain_machine::Plain;
 use basis::Memory;
 use schemas::Accepted;
 use std::alloc::Global;

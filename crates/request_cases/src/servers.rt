@@ -1,5 +1,5 @@
 //! Servers in memory, of releases of a history.
-use api_requests::Plain;
+use plain_machine::Plain;
 use basis::Memory;
 use example::WIDGETS;
 use history_reader::read_history;

@@ -1,7 +1,0 @@
-use Rattle.api_requests.proofs.LawLemmas.{leaves_state}
-use Rattle.api_requests.proofs.law.refused_request_leaves_state.Goals as goal
-
-pub returns : goal.returns
-returns c =
-    leaves_state c.args.state.now.state c.objects-objects.ensures.order
-    c.args.machine.now c.args.request.now

@@ -1,5 +1,0 @@
-use Rattle.api_requests.proofs.LawLemmas.{changes_one_key}
-use Rattle.api_requests.proofs.law.request_changes_one_key.Goals as goal
-
-pub returns : goal.returns
-returns c = changes_one_key c.args.state.now.state c.args.machine.now c.args.request.now

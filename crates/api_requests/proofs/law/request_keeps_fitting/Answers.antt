@@ -1,5 +1,0 @@
-use Rattle.api_requests.proofs.FittingLemmas.{goes_on_fitting}
-use Rattle.api_requests.proofs.law.request_keeps_fitting.Goals as goal
-
-pub returns : goal.returns
-returns c = goes_on_fitting c.args.state.now.state c.args.request.now c.args.machine.now c.view_finds_each.ensures c.view_is_kept.ensures

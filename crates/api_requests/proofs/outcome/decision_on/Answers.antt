@@ -1,6 +1,0 @@
-use Rattle.api_requests.proofs.OutcomeLemmas.{decides_unserved}
-use Rattle.api_requests.proofs.outcome.decision_on.Goals as goal
-
-pub returns-in_ok-answer-in-None-clause-decides : goal.returns-in_ok-answer-in-None-clause-decides
-returns-in_ok-answer-in-None-clause-decides c =
-    decides_unserved c.args.machine.now c.args.state.now.state c.args.request.now c.args.target _ c.in-None.is c.in_ok-answer-in-None.ensures

@@ -1,0 +1,10 @@
+//! The state that the records of a store stand for, as two releases read them.
+#![tactic(auto)]
+
+mod fault;
+mod law;
+mod reading;
+
+pub use fault::StartFault;
+pub use law::{recovered_records_are_within, records_have_one_answer, store_holds_within};
+pub use reading::read_state;
