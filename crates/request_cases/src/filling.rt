@@ -1,6 +1,6 @@
 //! Many objects in a server.
 use crate::requests::request;
-use plain_machine::Plain;
+use crate::slot::{Slot, replied};
 use basis::Memory;
 use std::alloc::Global;
 
@@ -13,17 +13,17 @@ fn creation(alloc: Global, number: u16) -> Result<String, Memory> {
 }
 
 /// Whether the widget with this number was made.
-fn makes(alloc: Global, plain: &mut Plain, number: u16) -> Result<bool, Memory> {
+fn makes(alloc: Global, slot: &mut Slot, number: u16) -> Result<bool, Memory> {
     let line = creation(alloc, number)?;
     let request = request(alloc, line.as_str())?;
-    let reply = plain.handle(alloc, &request)?;
+    let reply = replied(alloc, slot, &request)?;
     Ok(reply.code == 201)
 }
 
 /// Asks for so many widgets, until one isn't made. How many were made.
-fn made(alloc: Global, plain: &mut Plain, count: u16) -> Result<u16, Memory> {
+fn made(alloc: Global, slot: &mut Slot, count: u16) -> Result<u16, Memory> {
     for number in 0..count {
-        match makes(alloc, plain, number) {
+        match makes(alloc, slot, number) {
             Ok(true) => {}
             Ok(false) => return Ok(number),
             Err(_) => return Err(Memory),
@@ -33,7 +33,7 @@ fn made(alloc: Global, plain: &mut Plain, count: u16) -> Result<u16, Memory> {
 }
 
 /// So many widgets, in decimal.
-pub fn answer(alloc: Global, plain: &mut Plain, count: &str) -> Result<String, Memory> {
-    let made = made(alloc, plain, count.parse::<u16>().unwrap_or(0))?;
+pub fn answer(alloc: Global, slot: &mut Slot, count: &str) -> Result<String, Memory> {
+    let made = made(alloc, slot, count.parse::<u16>().unwrap_or(0))?;
     Ok(format!(in alloc; "{made} made")?)
 }
