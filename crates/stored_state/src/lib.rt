@@ -4,6 +4,7 @@
 mod fault;
 mod law;
 mod reading;
+mod record;
 
 pub use fault::StartFault;
 pub use law::{recovered_records_are_within, records_have_one_answer, store_holds_within};
