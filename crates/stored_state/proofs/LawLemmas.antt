@@ -1,11 +1,9 @@
 -- One answer for records; and records within their revision.
-use Rattle.std.proofs.Common.{◌≡◌, inl, inr, ℕ, ◌≤◌, List, [], ◌∷◌, ◌++◌, Contains, refl, sym, ◌∙◌, ap, subst, arith}
-use Rattle.std.specs.Prelude.{Option, Some, None, max}
+use Rattle.std.proofs.Common.{◌≡◌, inl, inr, ℕ, ◌≤◌, List, [], ◌∷◌, ◌++◌, sym, ◌∙◌, ap, subst, arith}
+use Rattle.std.specs.Prelude.{Some, None}
 use Rattle.basis.proofs.FirstLemmas.{first_is_one, first_refutes}
-use Rattle.conversion.specs.Whole.{api_version, text_at}
 use Rattle.key_order.proofs.OrderLemmas.{all_of}
 use Rattle.object_journal.specs.declared.entry.Entry.{Entry}
-use Rattle.object_journal.specs.declared.key.Key.{Key}
 use Rattle.object_journal.specs.Journal.{revision_after}
 use Rattle.object_store.specs.Records.{AreRecords, put_of}
 use Rattle.object_store.specs.Stores.{StoreRecord}
@@ -17,7 +15,7 @@ use Rattle.storage_version.specs.Bodies.{IsVersionTold, TellsVersion}
 use Rattle.storage_version.proofs.ReadLemmas.{one_tree}
 use Rattle.stored_state.specs.Both.{AreWithin}
 use Rattle.stored_state.specs.Laws.{HaveOneAnswer, RecoverWithin, HoldsWithin}
-use Rattle.stored_state.specs.Reading.{IsReadByBoth, IsUnreadableAt, IsFirstUnreadable}
+use Rattle.stored_state.specs.Reading.{IsReadByBoth, IsUnreadableAt}
 
 -- ---- one answer
 

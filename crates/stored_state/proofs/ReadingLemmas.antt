@@ -1,12 +1,10 @@
 -- Records as two releases read them, one after the other.
-use Rattle.std.proofs.Common.{◌≡◌, ◌⊎◌, inl, inr, ⊎_elim, ◌↔◌, ℕ, ◌+◌, ◌<◌, Bool, true, false, List, [], ◌∷◌, ◌++◌, length, get_or, take, Option, Some, None, Result, Ok, Err, Contains, refl, sym, ◌∙◌, ap, subst, arith}
-use Rattle.std.specs.Prelude.{All, IfSome}
+use Rattle.std.proofs.Common.{◌≡◌, ◌⊎◌, inl, inr, ⊎_elim, ◌↔◌, ℕ, ◌+◌, ◌<◌, true, false, List, [], ◌∷◌, ◌++◌, length, get_or, take, Option, Some, None, Result, Ok, Err, Contains, refl, sym, ◌∙◌, ap, subst, arith}
+use Rattle.std.specs.Prelude.{All}
 use Rattle.std.specs.declared.cmp.Ordering.TheVariants.{Less}
-use Rattle.std.proofs.lemmas.Bool.{cases_Bool, false≢true}
+use Rattle.std.proofs.lemmas.Bool.{cases_Bool}
 use Rattle.std.proofs.lemmas.List.{get_or_read, take_more}
-use Rattle.std.specs.List.{AllWithin}
-use Rattle.std.proofs.lemmas.List.Elements.{All-nil, All-cons, All-head, All-tail, All-append, All-push, All-contains, Contains-append_left, Contains-push, Contains-push_cases}
-use Rattle.basis.specs.First.{IsFirst}
+use Rattle.std.proofs.lemmas.List.Elements.{All-nil, All-head, All-tail, All-push, All-contains, Contains-append_left, Contains-push, Contains-push_cases}
 use Rattle.basis.proofs.FirstLemmas.{first_at}
 use Rattle.fields.specs.declared.map.FieldPair.{FieldPair}
 use Rattle.key_order.proofs.OrderLemmas.{all_before, all_of, in_order}
@@ -14,21 +12,21 @@ use Rattle.object_journal.specs.declared.key.Key.{Key}
 use Rattle.object_journal.specs.KeyOrder.{by_key}
 use Rattle.object_state.specs.Objects as state
 use Rattle.object_state.specs.Objects.{Holds}
-use Rattle.object_state.specs.State.{State, StateRecord}
+use Rattle.object_state.specs.State.{StateRecord}
 use Rattle.object_state.specs.declared.object.Object.{Object}
 use Rattle.object_state.specs.declared.object.Stored.{Stored}
 use Rattle.object_store.specs.Records.{AreInKeyOrder}
 use Rattle.object_store.specs.declared.item.Item.{Item}
 use Rattle.release_view.specs.Views.{Viewed, has_live}
 use Rattle.release_view.specs.declared.known.KnownVersion.{KnownVersion}
-use Rattle.storage_version.specs.Bodies.{IsBodyRead, IsDecodeFault}
+use Rattle.storage_version.specs.Bodies.{IsDecodeFault}
 use Rattle.storage_version.specs.declared.fault.DecodeFault.{DecodeFault}
 use Rattle.storage_version.specs.declared.fault.DecodeFault.TheVariants as decode
 use Rattle.storage_version.specs.Laws.{ReadsOnce}
-use Rattle.storage_version.specs.Standing.{IsLive, IsReadAs, HasRecord, AreReadable, StandsFor}
+use Rattle.storage_version.specs.Standing.{IsLive, IsReadAs, HasRecord, StandsFor}
 use Rattle.storage_version.proofs.StandingLemmas.{one_read}
-use Rattle.stored_state.specs.Reading.{IsReadWhereLive, IsUnreadable, IsReadByBoth, IsUnreadableAt, IsFirstUnreadable, IsStartFault}
-use Rattle.stored_state.specs.Steps.{IsFieldsOf, IsFaultIn, IsFaultAt, IsStoredOf, AreWith, AreObjectsOf}
+use Rattle.stored_state.specs.Reading.{IsReadByBoth, IsUnreadableAt, IsStartFault}
+use Rattle.stored_state.specs.Steps.{IsFaultIn, IsFaultAt, IsStoredOf, AreWith, AreObjectsOf}
 use Rattle.stored_state.specs.declared.fault.StartFault.{StartFault}
 use Rattle.stored_state.specs.declared.fault.StartFault.TheVariants.{Undecodable, Memory}
 

@@ -1,5 +1,5 @@
 -- One record as a release reads it, and what the records so far are read as.
-use Rattle.std.specs.Prelude.{◌≡◌, ◌⊎◌, ◌↔◌, ℕ, List, [], ◌∷◌, ◌++◌, Option, Some, None}
+use Rattle.std.specs.Prelude.{◌≡◌, ◌⊎◌, ◌↔◌, List, [], ◌∷◌, ◌++◌, Option, Some, None}
 use Rattle.fields.specs.declared.map.FieldPair.{FieldPair}
 use Rattle.object_journal.specs.declared.key.Key.{Key}
 use Rattle.object_state.specs.Objects.{AreInKeyOrder, Holds}

@@ -7,5 +7,5 @@ mod reading;
 mod record;
 
 pub use fault::StartFault;
-pub use law::{recovered_records_are_within, records_have_one_answer, store_holds_within};
+pub use law::{records_have_one_answer, recovered_records_are_within, store_holds_within};
 pub use reading::read_state;

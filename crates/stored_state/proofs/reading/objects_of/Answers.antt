@@ -9,6 +9,6 @@ returns-in-Err-clause-err c =
 pub loop-item-preserved : goal.loop-item-preserved
 loop-item-preserved c = record {
   objects = next_objects c.args.view.now.versions (reads_once c.args.view.now.versions) c.args.items.now c.loop-item.item-index c.item-item.result c.loop-item.objects.items c.add.new.objects.items
-  c.requires c.loop-item-test.true c.item-item.is c.loop-item.invariant.objects c.in-Ok.ensures.with;
+      c.requires c.loop-item-test.true c.item-item.is c.loop-item.invariant.objects c.in-Ok.ensures.with;
   both = next_both c.args.back.now c.args.view.now c.args.items.now c.loop-item.item-index c.item-item.result c.loop-item-test.true c.item-item.is c.loop-item.invariant.both c.in-Ok.ensures.both;
 }
