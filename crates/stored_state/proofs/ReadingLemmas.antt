@@ -59,9 +59,6 @@ fault_in view item group resource body fault key version minor same_group same_r
 
 -- ---- the records so far
 
-item_key : Item → Key
-item_key r = r.key
-
 before_below : (items : List Item) (i : ℕ) (item : Item) → AreInKeyOrder items → i < length items → item ≡ get_or items i item → All (λ r. by_key r.key item.key ≡ Less) (take i items)
 before_below items i item order below is =
     all_before (λ r. by_key r.key item.key ≡ Less) items i (omega (arith, below))
