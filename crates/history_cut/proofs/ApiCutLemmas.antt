@@ -137,7 +137,6 @@ module _ (apis : List ApiEntry) (o : ℕ) where
   removal_comes last to order plan j x sx removal replacement is within =
       let P : ApiEntry → Type 0 = λ r. IsKnownOf (subject x) last r × IsRemoval r.change in
       let removed : Any P apis = removal_from last x x.change (previous_of_version (take j apis) x) removal replacement is (omega arith) (plan j x sx) in
-      let r : ApiEntry = removed.1 in
       let known : IsKnownOf (subject x) last removed.1 = removed.4.0 in
       let sr : slice_get apis removed.0 ≡ Some removed.1 = any_stands P apis removed in
       let planned = planned_before last removed.1 removed.1.change (previous_of_version (take removed.0 apis) removed.1) removed.4.1 (plan removed.0 removed.1 sr) in

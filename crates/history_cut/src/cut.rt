@@ -48,8 +48,6 @@ pub fn cutoff(alloc: Global, a: &Accepted, o: Minor) -> Result<Accepted, CutFaul
     }
     let history = a.history();
     cutoff_is_accepted(history, o);
-    match cut_history(alloc, history, o) {
-        Ok(cut) => Ok(Accepted::take(cut)),
-        Err(Memory) => Err(CutFault::Memory),
-    }
+    let cut = cut_history(alloc, history, o)?;
+    Ok(Accepted::take(cut))
 }

@@ -23,6 +23,11 @@ impl fmt::Display for CutFault {
 impl Error for CutFault {}
 
 impl From<Memory> for CutFault {
+    ghost use Rattle.std.specs.Prelude.{◌≡◌};
+    ghost use Rattle.history_cut.specs.declared.fault.CutFault.TheVariants.{Memory as NoMemory};
+
+    ghost from_gives = { λ _ fault. fault ≡ NoMemory };
+
     fn from(_memory: Memory) -> CutFault {
         CutFault::Memory
     }
