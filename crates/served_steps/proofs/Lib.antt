@@ -1,1 +1,11 @@
-
+pub mod JoinLemmas
+pub mod StandLemmas
+pub mod KeepLemmas
+pub mod EndLemmas
+pub mod ChangeLemmas
+pub mod ContentLemmas
+pub mod CleanLemmas
+pub mod ShownLemmas
+pub mod TextLemmas
+pub mod FieldLemmas
+pub mod GoingLemmas

@@ -1,9 +1,11 @@
 //! What follows from the definitions, each law as the contract of a function that does nothing.
 ghost use Rattle.served_steps.specs.Laws.{HaveOneEnd, AreJoined, KeepWhatHolds, StandFitting, ChangesAreStorable, KeptGoOnStanding, AreKeptAfterSteps};
 
+use crate::texts::served_have_texts;
 use object_state::State;
 use plain_machine::Machine;
-use release_view::View;
+use release_view::{View, later_view_reads_live, view_finds_each, view_is_kept};
+use storage_version::{records_are_kept, records_go_on_standing, release_reads_own};
 
 /// The same items have the same replies, one after another, and leave one state.
 pub fn steps_have_one_end(machine: &Machine, state: &State)
@@ -26,7 +28,8 @@ pub fn steps_are_joined(machine: &Machine, state: &State)
 pub fn steps_keep_what_holds(machine: &Machine, state: &State)
     ensures { KeepWhatHolds machine.now state.now.state }
 {
-    let _machine = machine;
+    view_finds_each(&machine.view);
+    view_is_kept(&machine.view);
     let _state = state;
 }
 
@@ -34,7 +37,7 @@ pub fn steps_keep_what_holds(machine: &Machine, state: &State)
 pub fn standing_objects_fit(view: &View)
     ensures { StandFitting view.now.versions }
 {
-    let _view = view;
+    release_reads_own(view);
 }
 
 /// A change that a request makes can be stored.
@@ -42,7 +45,8 @@ pub fn changes_are_storable(back: &View, machine: &Machine)
     ensures { ChangesAreStorable back.now machine.now }
 {
     let _back = back;
-    let _machine = machine;
+    view_finds_each(&machine.view);
+    view_is_kept(&machine.view);
 }
 
 /// After any steps from a state that records stand for, there are records that are kept of them; they stand for the later state,
@@ -51,6 +55,10 @@ pub fn kept_records_go_on_standing(back: &View, machine: &Machine)
     ensures standing { KeptGoOnStanding back.now machine.now }
     ensures kept { AreKeptAfterSteps back.now machine.now }
 {
-    let _back = back;
-    let _machine = machine;
+    view_finds_each(&machine.view);
+    view_is_kept(&machine.view);
+    later_view_reads_live(back, &machine.view);
+    served_have_texts(back, &machine.view);
+    records_go_on_standing(back, &machine.view);
+    records_are_kept(back, &machine.view);
 }

@@ -2,6 +2,7 @@
 #![tactic(auto)]
 
 mod law;
+mod texts;
 
 pub use law::{
     changes_are_storable, kept_records_go_on_standing, standing_objects_fit, steps_are_joined,
