@@ -1,7 +1,6 @@
 -- A change that a request makes can be stored.
-use Rattle.std.proofs.Common.{◌≡◌, ◌≢◌, ◌⊎◌, inl, inr, ⊎_elim, ℕ, ◌+◌, ◌<◌, ◌≤◌, List, Bool, true, false, ◌&&◌, ◌||◌, [], ◌∷◌, Option, Some, None, Contains, bytes_eq, refl, sym, ◌∙◌, ap, subst, cond}
+use Rattle.std.proofs.Common.{◌≡◌, ◌≢◌, inl, inr, ⊎_elim, ℕ, ◌+◌, ◌<◌, ◌≤◌, List, Bool, true, false, ◌&&◌, ◌||◌, [], ◌∷◌, Option, Some, None, Contains, bytes_eq, refl, sym, ◌∙◌, ap, subst, cond}
 use Rattle.std.specs.Prelude.{option_and_then, option_map, IsTrue, MatchOption}
-use Rattle.std.specs.List.{list_any}
 use Rattle.std.proofs.lemmas.Bool.{cases_lt, false≢true}
 use Rattle.std.proofs.lemmas.List.Elements.{All-contains, recursion_from_All}
 use Rattle.std.proofs.lemmas.Slice.Eq.{bytes_eq-Decides}
@@ -23,10 +22,10 @@ use Rattle.object_state.specs.State.{State}
 use Rattle.object_state.specs.declared.object.Change.{Change}
 use Rattle.object_state.specs.declared.object.Object.{Object}
 use Rattle.plain_machine.proofs.CountLemmas.{was_absent}
-use Rattle.plain_machine.proofs.LawLemmas.{made_at, no_change_here, no_object_here, same_change}
+use Rattle.plain_machine.proofs.LawLemmas.{no_change_here, no_object_here, same_change}
 use Rattle.plain_machine.proofs.PlaceLemmas.{at_all, at_inside, at_object}
 use Rattle.plain_machine.specs.Deciding.{IsDecided}
-use Rattle.plain_machine.specs.Refusals.{IsNotRefused, Passes, Refuses, Refusal, WouldChange, refusals, full_answer, ended_answer, no_object_answer}
+use Rattle.plain_machine.specs.Refusals.{IsNotRefused, Passes, WouldChange, refusals, full_answer, ended_answer, no_object_answer}
 use Rattle.plain_machine.specs.Steps.{Decides, IsGranted, IsWritten}
 use Rattle.plain_machine.specs.declared.decision.Decided.{Decided}
 use Rattle.plain_machine.specs.declared.machine.Machine.{Machine}
@@ -46,7 +45,7 @@ use Rattle.storage_version.proofs.BackLemmas.{fits_storage}
 use Rattle.storage_version.specs.Kept.{IsChangeOf}
 use Rattle.storage_version.specs.Standing.{IsLive}
 use Rattle.storage_version.specs.Storage.{storage_table_in}
-use Rattle.stored_change.specs.Changes.{IsStorable, KeepsCreation, HasRoomFor}
+use Rattle.stored_change.specs.Changes.{KeepsCreation, HasRoomFor}
 use Rattle.served_steps.specs.Laws.{ChangesAreStorable}
 
 no_asked : (a : Asked) → None ≡ Some a → ⊥

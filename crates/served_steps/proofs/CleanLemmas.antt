@@ -1,7 +1,6 @@
 -- JSON of texts in UTF-8 and whole numbers is what its compact text is read as.
-use Rattle.std.proofs.Common.{◌≡◌, ℕ, suc, ◌+◌, ◌<◌, ◌≤◌, ◌^◌, max, Bool, true, false, cond, ◌==◌, List, [], ◌∷◌, ◌++◌, get_or, drop, decimal, Some, None, option_map, option_and_then, pos, negsuc, Less, Greater, nat_cmp, IsUtf8, refl, sym, ◌∙◌, ap, subst, arith, append-nil}
+use Rattle.std.proofs.Common.{◌≡◌, ℕ, suc, ◌<◌, ◌≤◌, ◌^◌, max, Bool, true, false, cond, ◌==◌, List, [], ◌∷◌, ◌++◌, get_or, drop, decimal, Some, option_map, option_and_then, pos, negsuc, Greater, nat_cmp, IsUtf8, refl, sym, ◌∙◌, ap, arith, append-nil}
 use Rattle.std.specs.Cmp.Lexicographic.{slice_cmp}
-use Rattle.std.specs.Fmt.{signed_decimal}
 use Rattle.std.specs.List.Sorted.{IsStrictlySortedBy}
 use Rattle.std.specs.Ordering.{match_ordering, ordering_reverse}
 use Rattle.std.proofs.lemmas.Bool.{ne_eqb}
@@ -19,7 +18,7 @@ use Rattle.json.proofs.Printed.Trees.{ArePrintable-json_tokens, value-json_token
 use Rattle.json.proofs.Printed.Utf8.{IsUtf8-are_ascii, IsUtf8-quoted, IsUtf8-boolean}
 use Rattle.json.specs.Json as json
 use Rattle.json.specs.Lex.{tokens}
-use Rattle.json.specs.Print.{IsNumber, print, quoted}
+use Rattle.json.specs.Print.{IsNumber, quoted}
 use Rattle.json.specs.Token.{Token}
 use Rattle.json.specs.Tree as tree
 use Rattle.json.specs.Word.{after_exponent, after_fraction, after_number, after_whole, head}

@@ -1,9 +1,9 @@
 -- What the strings of a text in UTF-8 stand for is UTF-8.
-use Rattle.std.proofs.Common.{◌≡◌, ◌≢◌, ◌⊎◌, inl, inr, ⊎_elim, ℕ, zero, suc, ◌+◌, ◌-◌, ◌*◌, ◌<◌, ◌≤◌, ◌==◌, ◌&&◌, ◌||◌, not, nat_lt, Bool, true, false, cond, List, [], ◌∷◌, ◌++◌, length, get_or, take, drop, Option, Some, None, option_map, option_and_then, IsUtf8, refl, sym, ◌∙◌, ap, subst, arith, append-nil, lit<}
+use Rattle.std.proofs.Common.{◌≡◌, ◌≢◌, ⊎_elim, ℕ, zero, suc, ◌+◌, ◌-◌, ◌*◌, ◌<◌, ◌≤◌, ◌==◌, ◌&&◌, ◌||◌, not, nat_lt, Bool, true, false, cond, List, [], ◌∷◌, ◌++◌, length, get_or, take, drop, Option, Some, None, option_and_then, IsUtf8, refl, sym, ◌∙◌, ap, subst, arith, lit<}
 use Rattle.std.specs.Char.{digit_value, is_digit, encode_utf8}
 use Rattle.std.specs.List.{prefix_len}
-use Rattle.std.proofs.Math.Utf8.{encode, scalar, low_scalar}
-use Rattle.std.proofs.lemmas.Bool.{cases_lt, cases_eq, and_parts, or_parts, not-true, false≢true, true≢false, ltb-true, ltb-false, le-ltb, lt-ltb, le-leb, leb-true, eqb-true, ne_eqb}
+use Rattle.std.proofs.Math.Utf8.{scalar, low_scalar}
+use Rattle.std.proofs.lemmas.Bool.{cases_lt, cases_eq, and_parts, or_parts, not-true, false≢true, true≢false, ltb-true, le-ltb, lt-ltb, le-leb, leb-true, eqb-true, ne_eqb}
 use Rattle.std.proofs.lemmas.List.{append_assoc, drop_more, length-drop, drop_all}
 use Rattle.std.proofs.lemmas.Str.{IsUtf8-append, IsUtf8-nil, IsUtf8-drop, IsUtf8-take, IsUtf8-encode, IsCharBoundary-before_ascii, IsCharBoundary-after_ascii}
 use Rattle.json.proofs.Printed.Utf8.{IsUtf8-are_ascii}

@@ -5,7 +5,6 @@ use Rattle.http_front.proofs.RouteLemmas.{one_route}
 use Rattle.http_front.specs.Items.{Item, taken_request, refused}
 use Rattle.http_front.specs.Replies.{IsBadReply}
 use Rattle.http_front.specs.declared.reply.Reply.{Reply}
-use Rattle.http_front.specs.declared.request.Request.{Request}
 use Rattle.object_state.specs.Objects.{AreInKeyOrder}
 use Rattle.object_state.specs.State.{State, IsNext}
 use Rattle.object_state.specs.declared.object.Change.{Change}

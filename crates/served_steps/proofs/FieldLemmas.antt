@@ -4,7 +4,7 @@ use Rattle.std.specs.Prelude.{if◌then◌else◌}
 use Rattle.std.proofs.lemmas.Bool.{true≢false}
 use Rattle.std.proofs.lemmas.List.Elements.{All-nil, All-cons, All-contains}
 use Rattle.std.proofs.lemmas.Slice.Eq.{bytes_eq-Decides}
-use Rattle.conversion.specs.Reading.{IsHeld, IsRead, Reads, default_in}
+use Rattle.conversion.specs.Reading.{IsRead, Reads}
 use Rattle.conversion.specs.Writing.{IsWrittenIn}
 use Rattle.conversion.specs.declared.mode.Mode.TheVariants.{Body}
 use Rattle.fields.specs.Map.{value_at}
@@ -20,7 +20,7 @@ use Rattle.object_state.specs.State.{State}
 use Rattle.http_front.specs.declared.request.Request.{Request}
 use Rattle.request_body.specs.Places.{Place}
 use Rattle.request_body.specs.Writes.{AreGiven}
-use Rattle.serde_json.specs.Data.{Data, string, array}
+use Rattle.serde_json.specs.Data.{Data, string}
 use Rattle.serde_json.specs.View.{items_of}
 use Rattle.served_steps.proofs.ShownLemmas.{AreUtf8, IsTextual, HoldsTexts}
 use Rattle.served_steps.proofs.TextLemmas.{IsTextData, HaveTexts, read_texts, stands_text}

@@ -1,15 +1,13 @@
 -- Records that are kept go on standing through steps of a server.
-use Rattle.std.proofs.Common.{◌≡◌, ◌≤◌, ◌⊎◌, inl, inr, ⊎_elim, ℕ, ◌+◌, List, [], ◌∷◌, true, Option, Some, None, IsSome, Contains, refl, sym, ◌∙◌, ap, subst, arith}
+use Rattle.std.proofs.Common.{◌≡◌, ◌≤◌, inl, inr, ⊎_elim, ℕ, ◌+◌, List, [], ◌∷◌, true, Option, Some, None, IsSome, Contains, refl, sym, ◌∙◌, ap, subst, arith}
 use Rattle.std.specs.Prelude.{if◌then◌else◌, option_map, option_and_then}
 use Rattle.std.proofs.lemmas.List.Elements.{All-contains}
-use Rattle.fields.specs.Fits.{Fits}
 use Rattle.fields.specs.Table.{AreLawful}
 use Rattle.fields.specs.declared.table.VersionTable.{VersionTable}
 use Rattle.http_front.specs.Items.{Item as StreamItem, taken_request, refused}
 use Rattle.http_front.specs.declared.reply.Reply.{Reply}
 use Rattle.http_front.specs.declared.request.Request.{Request}
 use Rattle.key_order.proofs.OutcomeLemmas.{can_put, can_remove}
-use Rattle.lifecycle.specs.Entry.{GroupVersionResource}
 use Rattle.object_journal.specs.declared.entry.Change.TheVariants.{Removal}
 use Rattle.object_journal.specs.declared.entry.Entry.{Entry}
 use Rattle.object_journal.specs.declared.key.Key.{Key}
@@ -24,13 +22,11 @@ use Rattle.plain_machine.specs.declared.machine.Machine.{Machine}
 use Rattle.release_view.proofs.ListLemmas.{gives}
 use Rattle.release_view.specs.Kept.{IsKept}
 use Rattle.release_view.specs.Known.{name_of, table_name}
-use Rattle.release_view.specs.Later.{AreOfOneHistory, ReadsLive, ReadsLiveOf}
+use Rattle.release_view.specs.Later.{AreOfOneHistory, ReadsLiveOf}
 use Rattle.release_view.specs.Laws.{FindsEach}
 use Rattle.release_view.specs.Served.{served_as, served_of, shown}
 use Rattle.release_view.specs.Views.{Viewed, best_table_in, has_live, is_live_of, table_in}
 use Rattle.release_view.specs.declared.known.KnownVersion.{KnownVersion}
-use Rattle.release_view.specs.declared.served.ServedVersion.{ServedVersion}
-use Rattle.request_body.specs.Writes.{AreGiven}
 use Rattle.request_target.specs.Targets.{Asked, AsksFor}
 use Rattle.schemas.specs.Dated.{Dated}
 use Rattle.storage_version.proofs.KnownLemmas.{best_of_live}

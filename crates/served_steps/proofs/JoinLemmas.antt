@@ -1,5 +1,5 @@
 -- Steps one after another.
-use Rattle.std.proofs.Common.{◌≡◌, List, [], ◌∷◌, ◌++◌, refl, sym, ◌∙◌, subst}
+use Rattle.std.proofs.Common.{List, [], ◌∷◌, ◌++◌, refl, subst}
 use Rattle.object_state.specs.State.{State}
 use Rattle.plain_machine.specs.declared.machine.Machine.{Machine}
 use Rattle.served_steps.specs.Laws.{AreJoined}

@@ -1,5 +1,5 @@
 -- What shows texts in UTF-8 is clean, and so there is a record of an object that holds such.
-use Rattle.std.proofs.Common.{◌≡◌, ◌⊎◌, inl, inr, ◌++◌, ℕ, suc, ◌+◌, ◌<◌, ◌≤◌, ◌^◌, List, [], ◌∷◌, length, map, get_or, codes, zero, decimal, Option, Some, None, IfSome, IsSome, All, ℤ, pos, negsuc, Less, Equal, Greater, Ordering, nat_cmp, IsUtf8, IsAscii, refl, sym, ◌∙◌, ap, subst, arith}
+use Rattle.std.proofs.Common.{◌≡◌, inl, inr, ◌++◌, ℕ, ◌<◌, List, [], ◌∷◌, map, codes, decimal, Option, Some, None, IfSome, IsSome, All, ℤ, pos, negsuc, Less, Equal, Greater, Ordering, nat_cmp, IsUtf8, refl, sym, ◌∙◌, subst, arith}
 use Rattle.std.specs.Cmp.Lexicographic.{slice_cmp}
 use Rattle.std.specs.Fmt.{signed_decimal}
 use Rattle.std.specs.List.Sorted.{IsStrictlySortedBy}
@@ -18,12 +18,12 @@ use Rattle.conversion.proofs.WholeReadLemmas.{whole_round}
 use Rattle.conversion.specs.Reading.{IsHeld}
 use Rattle.conversion.specs.Showing.{Shows, IsInOrder, AreInOrder, names_of}
 use Rattle.conversion.specs.Trees.{Names, Stands, IsObject}
-use Rattle.conversion.specs.Whole.{IsWhole, IsTextOf, api_version, kind}
+use Rattle.conversion.specs.Whole.{api_version, kind}
 use Rattle.conversion.specs.Writing.{IsWrittenIn}
 use Rattle.fields.specs.Fits.{Fits}
 use Rattle.fields.specs.Map.{value_at}
 use Rattle.fields.specs.Order.{Rises}
-use Rattle.fields.specs.Table.{IsInt64, IsLawfulRow, AreLawful, LeadsThrough}
+use Rattle.fields.specs.Table.{IsInt64, IsLawfulRow, AreLawful}
 use Rattle.fields.specs.declared.field.Form.{Form}
 use Rattle.fields.specs.declared.field.Form.TheVariants.{Same, Not, Decimal}
 use Rattle.fields.specs.declared.map.FieldPair.{FieldPair}
@@ -33,9 +33,8 @@ use Rattle.fields.specs.declared.value.FieldValue.{FieldValue}
 use Rattle.fields.specs.declared.value.FieldValue.TheVariants.{Bool as Truth, Int, Text, List as Texts}
 use Rattle.json.proofs.Printed.Utf8.{IsUtf8-are_ascii}
 use Rattle.lifecycle.specs.Names.{group_version}
-use Rattle.serde_json.specs.Data.{Data, null, boolean, number, string, array, object, Items, Members, no_members, member, put, depth}
+use Rattle.serde_json.specs.Data.{Data, null, boolean, number, string, array, object, Members, no_members, member, put}
 use Rattle.serde_json.specs.Find.{get_member, of_integer}
-use Rattle.serde_json.specs.Read.{max_depth}
 use Rattle.serde_json.specs.View.{items_of}
 use Rattle.serde_json.specs.Written.{compact_text}
 use Rattle.storage_version.specs.Bodies.{IsBodyOf}

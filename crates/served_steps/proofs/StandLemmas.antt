@@ -1,5 +1,5 @@
 -- Objects that records stand for fit the versions of their resources.
-use Rattle.std.proofs.Common.{◌≡◌, ℕ, List, Contains, sym, ◌∙◌, ap, subst}
+use Rattle.std.proofs.Common.{◌≡◌, ℕ, List, Contains, ◌∙◌, ap, subst}
 use Rattle.fields.specs.Fits.{Fits}
 use Rattle.key_order.proofs.OrderLemmas.{all_of}
 use Rattle.object_pages.specs.Fitting.{AreFitting}

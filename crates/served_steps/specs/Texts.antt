@@ -1,5 +1,5 @@
 -- Texts of a view that are in UTF-8: those of which a record of an object may be made.
-use Rattle.std.specs.Prelude.{◌≡◌, List, Some, All, Contains, IfSome}
+use Rattle.std.specs.Prelude.{◌≡◌, List, Some, All, IfSome}
 use Rattle.std.specs.Str.{IsUtf8}
 use Rattle.fields.specs.declared.table.FieldRow.{FieldRow}
 use Rattle.fields.specs.declared.table.VersionTable.{VersionTable}
