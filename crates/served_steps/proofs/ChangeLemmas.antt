@@ -103,6 +103,7 @@ live_there g r (w ∷ ws) v there live = ⊎_elim
     first : (a b : Bool) → a ≡ true → (a || b) ≡ true
     first true b h = refl
     first false b h = absurd (false≢true h)
+
     second : (a b : Bool) → b ≡ true → (a || b) ≡ true
     second true b h = refl
     second false b h = h

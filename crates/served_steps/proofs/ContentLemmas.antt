@@ -202,11 +202,14 @@ module _ (k : ℕ) (below : ReadsBelow k) where
     where
       parts : IsUnit a b c d u
       parts = unit_parts a b c d u is
+
       rest : IsUtf8 xs
       rest = four_rest a b c d u xs parts text
+
       low : (t : Bool) → is_high_surrogate u ≡ false → is_low_surrogate u ≡ t → cond t None (prepend (encode_utf8 u) (content plain xs)) ≡ Some s → IsUtf8 s
       low true high is e = absurd (no_text s e)
       low false high is e = prepended (encode_utf8 u) (content plain xs) s (IsUtf8-encode u (unit_scalar u parts.small high is)) (λ t read. below xs t short rest read) e
+
       by : (t : Bool) → is_high_surrogate u ≡ t → cond t (content (after_high u) xs) (cond (is_low_surrogate u) None (prepend (encode_utf8 u) (content plain xs))) ≡ Some s → IsUtf8 s
       by true high e = high_read u (high_parts u high) xs s (omega (arith, short)) rest e
       by false high e = low (is_low_surrogate u) high refl e

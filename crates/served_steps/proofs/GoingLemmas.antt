@@ -204,8 +204,7 @@ module _ (back : Viewed) (m : Machine) (history : Dated) (one : AreOfOneHistory 
         record { order = going.order; of_server = of_server; applied = applied; entry = made.is; changed = made.changed } in
         let stand = goes history one records made.new s.revision s next change made.entry step going.stand.later in
         let is_kept = keeps.stepped old records made.new s.revision s next change made.entry low step going.kept in
-        let both : StandForBoth back m.view made.new made.entry.revision next = record { later = stand.0; earlier = stand.1 going.stand.earlier } in
-        (
+        let both : StandForBoth back m.view made.new made.entry.revision next = record { later = stand.0; earlier = stand.1 going.stand.earlier } in (
           made.new,
           record {
             order = is_kept.order;

@@ -127,14 +127,19 @@ quote_small x e = by (x == 34) refl e
     not_class : (t : Bool) (c : lexer.Class) → (c ≡ lexer.quote → ⊥) → (b : lexer.Class) → (b ≡ lexer.quote → ⊥) → cond t c b ≡ lexer.quote → ⊥
     not_class true c h b k e = h e
     not_class false c h b k e = k e
+
     backslash_apart : lexer.backslash ≡ lexer.quote → ⊥
     backslash_apart e = cc
+
     operator_apart : lexer.operator ≡ lexer.quote → ⊥
     operator_apart e = cc
+
     space_apart : lexer.space ≡ lexer.quote → ⊥
     space_apart e = cc
+
     other_apart : lexer.other ≡ lexer.quote → ⊥
     other_apart e = cc
+
     by : (t : Bool) → (x == 34) ≡ t → cond t lexer.quote (cond (x == 92) lexer.backslash (cond (words.is_operator x) lexer.operator (cond (words.is_space x) lexer.space lexer.other))) ≡ lexer.quote → x < 128
     by true is e = let same : x ≡ 34 = eqb-true x 34 is in omega (arith, same)
     by false is e =

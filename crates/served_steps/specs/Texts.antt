@@ -11,7 +11,7 @@ use Rattle.release_view.specs.declared.known.KnownVersion.{KnownVersion}
 use Rattle.release_view.specs.declared.served.ServedVersion.{ServedVersion}
 use Rattle.storage_version.specs.Storage.{storage_table_in}
 
--- a default that is a text is UTF-8; none is a list
+-- a default that is a text is UTF-8. A list is none in a lawful row
 abbrev pub IsTextDefault : FieldValue → Type 0
 IsTextDefault (Bool b) = Unit {0}
 IsTextDefault (Int z) = Unit {0}
