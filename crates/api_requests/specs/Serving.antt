@@ -1,5 +1,5 @@
--- A server over a store, as contracts see it, and what its type keeps.
-use Rattle.std.specs.Prelude.{◌≡◌, ◌≤◌, List, true, Option, Some, None}
+-- A server over a store, as contracts see it.
+use Rattle.std.specs.Prelude.{◌≡◌, List, true, Option, Some, None}
 use Rattle.fields.specs.declared.map.FieldPair.{FieldPair}
 use Rattle.object_journal.specs.declared.key.Key.{Key}
 use Rattle.object_state.specs.Objects.{Holds, HasKey}
@@ -12,7 +12,6 @@ use Rattle.release_view.specs.Later.{AreOfOneHistory}
 use Rattle.release_view.specs.Views.{Viewed}
 use Rattle.schemas.specs.Dated.{Dated}
 use Rattle.stored_state.specs.Both.{StandForBoth}
-use Rattle.api_requests.specs.declared.service.Service.TheInside.{Inside}
 
 -- what the server is: a machine, and the view of the earlier release to which one may go back; and what it keeps: a state,
 -- and the store of its records
@@ -22,9 +21,6 @@ pub record Serving : Type 0 where
   pub state : State
   pub store : StoreRecord
 
-abbrev pub serving : Inside → Serving
-serving s = record { machine = s.machine; back = s.back; state = s.state.state; store = s.store }
-
 -- both views are of one history, and the earlier one is that of the minimum compatibility; the records of the store stand
 -- for the state by both
 pub record IsServing (s : Serving) : Type 0 where
@@ -32,11 +28,6 @@ pub record IsServing (s : Serving) : Type 0 where
   pub one : AreOfOneHistory history s.back s.machine.view
   pub least : s.machine.back ≡ s.back.minor
   pub stand : StandForBoth s.back s.machine.view s.store.items s.store.journal.revision s.state
-
--- and there is room for one more object where there is for one more record
-pub record IsKeptInside (s : Inside) : Type 0 where
-  pub serves : IsServing (serving s)
-  pub room : 1 ≤ s.store.spare → s.state.spare ≡ 1
 
 -- the server after its disk failed: no commit may follow
 abbrev pub ended : Serving → Serving

@@ -1,4 +1,5 @@
 use basis::Memory;
+use disk::Failed;
 use std::error::Error;
 use std::fmt;
 
@@ -19,6 +20,17 @@ impl From<Memory> for HandleFault {
 
     fn from(_memory: Memory) -> HandleFault {
         HandleFault::Memory
+    }
+}
+
+impl From<Failed> for HandleFault {
+    ghost use Rattle.std.specs.Prelude.{◌≡◌};
+    ghost use Rattle.api_requests.specs.declared.fault.HandleFault.TheVariants.{Disk as DiskFault};
+
+    ghost from_gives = { λ _ fault. fault ≡ DiskFault };
+
+    fn from(_failed: Failed) -> HandleFault {
+        HandleFault::Disk
     }
 }
 

@@ -3,10 +3,12 @@
 #![tactic(auto)]
 
 mod fault;
+mod law;
 mod prepared;
 mod service;
 
 pub use fault::HandleFault;
+pub use law::{service_is_kept, standing_service_restores};
 pub use prepared::Prepared;
 pub use service::{Service, start};
 pub use stored_state::StartFault;

@@ -1,0 +1,4 @@
+pub mod ChangeLemmas
+pub mod CountLemmas
+pub mod StopLemmas
+pub mod RoomLemmas
