@@ -1,18 +1,16 @@
 -- What a stop during a request leaves, and a request that makes no call of the disk.
-use Rattle.std.proofs.Common.{◌≡◌, inl, inr, ⊎_elim, ℕ, List, refl, sym, subst, ◌∙◌, arith}
-use Rattle.std.specs.Prelude.{Option, Some}
+use Rattle.std.proofs.Common.{inl, inr, ⊎_elim, ℕ, List, refl, sym, subst, ◌∙◌, arith}
+use Rattle.std.specs.Prelude.{Some}
 use Rattle.disk.specs.Beside.{Beside}
 use Rattle.disk.specs.Calls.{Spares}
 use Rattle.disk.specs.Images.{Pending, Images, Each}
 use Rattle.disk.specs.declared.file.File.{File}
 use Rattle.disk.proofs.ImageLemmas.{image_now}
-use Rattle.http_front.specs.declared.reply.Reply.{Reply}
 use Rattle.http_front.specs.declared.request.Request.{Request}
 use Rattle.object_journal.specs.Journal.{IsGated}
 use Rattle.object_journal.specs.Standing.{chosen}
 use Rattle.object_journal.specs.declared.entry.Entry.{Entry}
 use Rattle.object_state.specs.State.{State, IsNext}
-use Rattle.object_state.specs.declared.object.Change.{Change}
 use Rattle.object_store.specs.Records.{AreInKeyOrder as AreRecordsInOrder, RecoversTo}
 use Rattle.object_store.specs.Stores.{StoreRecord, HasEntries, LeavesRecords}
 use Rattle.plain_machine.specs.Deciding.{IsDecided}

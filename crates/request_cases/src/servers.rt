@@ -60,8 +60,13 @@ pub struct Server {
 }
 
 impl Model for Server {
-    ghost use Rattle.disk.specs.MemDisk.{mem_held, mem_pending};
     ghost use Rattle.api_requests.specs.Finishing.{StandsOnDisk};
+    ghost use Rattle.api_requests.specs.Serving.{Serving};
+    ghost use Rattle.disk.specs.MemDisk.{MemRecord, mem_held, mem_pending};
+
+    ghost Value = { Serving × MemRecord };
+
+    ghost view = { λ s. (s.service, s.disk) };
 
     ghost invariant = { λ s. StandsOnDisk (Unit {0}) (mem_held s.disk) (mem_pending s.disk) s.service };
 }
@@ -84,7 +89,7 @@ impl Server {
 }
 
 /// What a server is started as: the release that it emulates, its minimum compatibility, and its flag texts.
-#[derive(Clone, Copy)]
+#[derive(Clone, Copy, Debug)]
 struct Flags<'a> {
     emulated: Minor,
     back: Minor,
@@ -93,6 +98,7 @@ struct Flags<'a> {
 }
 
 /// Why there is no server.
+#[derive(Debug, Drop)]
 pub enum NoServer {
     /// The words are no flags that the history takes.
     Flags,

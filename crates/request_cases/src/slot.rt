@@ -10,6 +10,7 @@ use schemas::Accepted;
 use std::alloc::Global;
 
 /// The place of the server, while there is one.
+#[derive(Debug, Drop)]
 pub struct Slot {
     pub server: Option<Server>,
 }

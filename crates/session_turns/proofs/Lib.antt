@@ -1,1 +1,4 @@
-
+pub mod CaughtLemmas
+pub mod TurnLemmas
+pub mod OneListLemmas
+pub mod InOrderLemmas

@@ -1,4 +1,5 @@
--- The turns of a session: which items of its connections are answered, in which order, and after how many events.
+-- The turns of a session: which items of its connections are answered, in which order, and after
+-- how many events.
 use Rattle.std.specs.Prelude.{◌≡◌, ◌≢◌, ◌⊎◌, ◌+◌, ◌||◌, ℕ, List, [], ◌∷◌, ◌++◌, Bool, true, false, not, map, All, Option, Some, None, if◌then◌else◌}
 use Rattle.std.specs.List.{list_any}
 use Rattle.conn_mux.specs.Orders.{Streams, AreCompleted, streams_after, opens, brings, drops}
@@ -8,7 +9,8 @@ use Rattle.disk.specs.Beside.{FrontEvent, Opened, Piece, Closed, End}
 use Rattle.http_front.specs.Items.{Item, IsSplit, is_final}
 use Rattle.http_front.specs.declared.reply.Reply.{Reply}
 
--- one item of a connection with its reply: how many events had been taken when it was answered, and whether the reply went
+-- one item of a connection with its reply: how many events had been taken when it was answered,
+-- and whether the reply went
 pub record Turn : Type 0 where
   pub c : ℕ
   pub seen : ℕ
@@ -52,7 +54,8 @@ abbrev pub AreCutShort : Option (List ℕ) → List ℕ → List Turn → Type 0
 AreCutShort None bytes turns = ⊥
 AreCutShort (Some stream) bytes turns = EndsAtLast turns × BeginWith stream bytes (items_in turns)
 
--- all items that the piece completes, none of which ends the connection; or the first ones up to one that does
+-- all items that the piece completes, none of which ends the connection; or the first ones up to
+-- one that does
 abbrev pub AreTurnsOfPiece : Option (List ℕ) → ℕ → ℕ → List ℕ → List Turn → Type 0
 AreTurnsOfPiece stream c seen bytes turns = AreOf c seen turns
     × (((some_ends turns ≡ false) × AreCompleted stream bytes (items_in turns))
@@ -67,7 +70,8 @@ AreFirstOfPiece (Some stream) c seen bytes turns = AreOf c seen turns
 
 -- ---- the turns of events
 
--- where a session stands between two events: what came of each connection that is held, and how many events were taken
+-- where a session stands between two events: what came of each connection that is held, and how
+-- many events were taken
 pub record Position : Type 0 where
   pub streams : Streams
   pub seen : ℕ

@@ -1,4 +1,4 @@
-use Rattle.std.proofs.Common.{◌≡◌, refl, sym, subst}
+use Rattle.std.proofs.Common.{refl, sym, subst}
 use Rattle.object_journal.proofs.StopLemmas.{is_not_ok, writes_so}
 use Rattle.plain_machine.specs.Deciding.{IsDecided}
 use Rattle.api_requests.proofs.RoomLemmas.{goes_on_before, leaves_before}

@@ -1,4 +1,4 @@
-use Rattle.std.proofs.Common.{◌≡◌, Some, sym, ap, subst, ◌∙◌}
+use Rattle.std.proofs.Common.{Some, sym, ap, subst, ◌∙◌}
 use Rattle.object_state.specs.declared.object.Change.{Change}
 use Rattle.plain_machine.specs.Deciding.{IsDecided}
 use Rattle.plain_machine.specs.declared.decision.Decided.{Decided}

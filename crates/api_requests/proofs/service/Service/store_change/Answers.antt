@@ -1,4 +1,4 @@
-use Rattle.std.proofs.Common.{◌≡◌, ◌++◌, ◌∷◌, [], Some, refl, sym, subst, arith}
+use Rattle.std.proofs.Common.{◌++◌, ◌∷◌, [], Some, refl, sym, subst, arith}
 use Rattle.object_journal.proofs.StopLemmas.{is_not_ok, writes_so}
 use Rattle.api_requests.proofs.ChangeLemmas.{stand_after, kept_after}
 use Rattle.api_requests.proofs.CountLemmas.{few_records}

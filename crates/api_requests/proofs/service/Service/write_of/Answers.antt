@@ -1,4 +1,4 @@
-use Rattle.std.proofs.Common.{◌≡◌, refl, sym, ap, subst}
+use Rattle.std.proofs.Common.{refl, sym, ap, subst}
 use Rattle.object_state.specs.State.{StateRecord}
 use Rattle.stored_change.specs.Changes.{IsStorable}
 use Rattle.api_requests.proofs.WriteLemmas.{write_ready}
