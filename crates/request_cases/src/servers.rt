@@ -111,7 +111,11 @@ pub enum NoServer {
 /// What stands before the next space, and what stands behind it; a hyphen is an empty text.
 fn word(text: &str) -> (&str, &str) {
     let (word, rest) = text.split_once(' ').unwrap_or((text, ""));
-    if word == "-" { ("", rest) } else { (word, rest) }
+    if word == "-" {
+        ("", rest)
+    } else {
+        (word, rest)
+    }
 }
 
 /// The release with this number in decimal.
@@ -119,7 +123,7 @@ fn release(word: &str) -> Option<Minor> {
     from_number(word.parse::<u16>().ok()?)
 }
 
-fn flags(words: &str) -> Option<Flags<'_>> {
+fn flags_in(words: &str) -> Option<Flags<'_>> {
     let (emulated, rest) = word(words);
     let (back, rest) = word(rest);
     let (config, rest) = word(rest);
@@ -185,19 +189,25 @@ fn opened(
 
 /// A server over what the disk holds: one that emulates the release of the first number, with that of the second one as its
 /// minimum compatibility, a runtime configuration and a feature gate text, parted by spaces.
-pub fn server(
+pub fn started(
     alloc: Global,
     accepted: &Accepted,
     disk: MemDisk,
     words: &str,
 ) -> Result<Server, NoServer> {
-    let Some(flags) = flags(words) else {
+    let Some(flags) = flags_in(words) else {
         return Err(NoServer::Flags);
     };
     if !may_serve(accepted, flags.emulated, flags.back) {
         return Err(NoServer::Flags);
     }
-    let view = view_of(alloc, accepted, flags.emulated, flags.features, flags.config)?;
+    let view = view_of(
+        alloc,
+        accepted,
+        flags.emulated,
+        flags.features,
+        flags.config,
+    )?;
     let back = view_of(alloc, accepted, flags.back, "", "")?;
     views_are_of_one_history(accepted, &back, &view);
     opened(alloc, disk, view, back, accepted.last())

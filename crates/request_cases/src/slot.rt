@@ -1,5 +1,5 @@
 //! The server of the cases, and what its disk holds.
-use crate::servers::{NoServer, Server, empty_disk, server};
+use crate::servers::{NoServer, Server, empty_disk, started};
 use api_requests::StartFault;
 use basis::Memory;
 use disk::{File, MemDisk};
@@ -37,12 +37,7 @@ fn disk_of(alloc: Global, slot: &Slot) -> Result<MemDisk, Memory> {
     }
 }
 
-fn unreadable(
-    alloc: Global,
-    key: &Key,
-    version: &str,
-    number: u16,
-) -> Result<String, Memory> {
+fn unreadable(alloc: Global, key: &Key, version: &str, number: u16) -> Result<String, Memory> {
     let (group, resource) = (key.group.as_str(), key.resource.as_str());
     let (namespace, name) = (key.namespace.as_str(), key.name.as_str());
     Ok(format!(in alloc;
@@ -69,7 +64,7 @@ fn renewed(
     disk: MemDisk,
     words: &str,
 ) -> Result<String, Memory> {
-    match server(alloc, accepted, disk, words) {
+    match started(alloc, accepted, disk, words) {
         Ok(server) => {
             slot.server = Some(server);
             Ok(String::from_str(alloc, "a new server")?)
