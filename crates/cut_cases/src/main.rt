@@ -1,10 +1,11 @@
-//! Cases of a history that is cut: a line of standard input names a release, and its answer is a line of output: of which
-//! releases the product's example speaks where it is cut there, and how many entries it has then. The line `whole` asks the
-//! same of the example as it is.
+//! Cases of a history that is cut or folded: a line of standard input names a release, and its answer is a line of output:
+//! of which releases the product's example speaks where it is cut there, and how many entries it has then. The line `whole`
+//! asks the same of the example as it is, and the line `fold` of the example folded.
 #![tactic(auto)]
 
 use example::WIDGETS;
 use history_cut::cutoff;
+use history_fold::fold;
 use history_reader::read_history;
 use history_rules::check;
 use minor_version::{Minor, parse_plain};
@@ -36,10 +37,16 @@ fn cut_at(alloc: Global, accepted: &Accepted, o: Minor) -> anyhow::Result<String
     }
 }
 
+fn folded(alloc: Global, accepted: &Accepted) -> anyhow::Result<String> {
+    let folded = fold(alloc, accepted)?;
+    told(alloc, &folded)
+}
+
 fn answer(alloc: Global, accepted: &Accepted, line: &str) -> anyhow::Result<String> {
     match parse_plain(line.as_bytes()) {
         Some(o) => cut_at(alloc, accepted, o),
         None if line == "whole" => told(alloc, accepted),
+        None if line == "fold" => folded(alloc, accepted),
         None => Ok(String::from_str(alloc, "no release")?),
     }
 }

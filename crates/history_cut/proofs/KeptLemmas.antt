@@ -20,10 +20,10 @@ pub record StandsIn {E : Type 0} (p : E → Bool) (xs : List E) (i : ℕ) (x : E
   pub passes : p x ≡ true
   pub earlier : take i (filter p xs) ≡ filter p (take place xs)
 
-kept_head : {E : Type 0} (p : E → Bool) (y : E) (ys : List E) → p y ≡ true → filter p (y ∷ ys) ≡ y ∷ filter p ys
+pub kept_head : {E : Type 0} (p : E → Bool) (y : E) (ys : List E) → p y ≡ true → filter p (y ∷ ys) ≡ y ∷ filter p ys
 kept_head p y ys e = cond-true (p y) (y ∷ filter p ys) (filter p ys) e
 
-left_head : {E : Type 0} (p : E → Bool) (y : E) (ys : List E) → p y ≡ false → filter p (y ∷ ys) ≡ filter p ys
+pub left_head : {E : Type 0} (p : E → Bool) (y : E) (ys : List E) → p y ≡ false → filter p (y ∷ ys) ≡ filter p ys
 left_head p y ys e = cond-false (p y) (y ∷ filter p ys) (filter p ys) e
 
 first_kept : {E : Type 0} (p : E → Bool) (y : E) (ys : List E) (x : E) → p y ≡ true → Some y ≡ Some x → StandsIn p (y ∷ ys) 0 x
@@ -76,7 +76,7 @@ all_before P xs zero each = tt
 all_before P [] (suc j) each = tt
 all_before {E} P (x ∷ xs) (suc j) each = (each 0 x (omega arith) refl, all_before P xs j (λ (k : ℕ) (y : E) (less : k < j) (stands : slice_get xs k ≡ Some y). each (suc k) y (omega arith) stands))
 
-last_of_more : {E : Type 0} (test : E → Bool) (z : E) (zs : List E) → last_passing test (z ∷ zs) ≡ option_or (last_passing test zs) (find test (z ∷ []))
+pub last_of_more : {E : Type 0} (test : E → Bool) (z : E) (zs : List E) → last_passing test (z ∷ zs) ≡ option_or (last_passing test zs) (find test (z ∷ []))
 last_of_more test z zs = ap (find test) (reverse-append (z ∷ []) zs) ∙ find-append test (reverse zs) (z ∷ [])
 
 or_none : {E : Type 0} (o : Option E) → option_or o None ≡ o

@@ -7,6 +7,7 @@ mod fault;
 mod kept;
 mod law;
 
+pub use copy::{copy_of_api, copy_of_field, copy_of_gate, copy_of_spell};
 pub use cut::cutoff;
 pub use fault::CutFault;
 pub use law::{cutoff_is_accepted, cutoff_of_cutoff, cutoff_twice_is_once};

@@ -1,1 +1,3 @@
-
+pub mod SendLemmas
+pub mod ServerLemmas
+pub mod CourseLemmas

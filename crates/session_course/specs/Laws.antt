@@ -1,5 +1,5 @@
 -- What follows from the definitions of courses.
-use Rattle.std.specs.Prelude.{◌≡◌, ◌++◌, ℕ, List, []}
+use Rattle.std.specs.Prelude.{◌++◌, ℕ, List, []}
 use Rattle.disk.specs.Beside.{Beside}
 use Rattle.disk.specs.Images.{Images}
 use Rattle.session_turns.specs.Turns.{Turn}

@@ -9,7 +9,8 @@ use Rattle.served_steps.specs.Steps.{Exchange, Steps}
 use Rattle.storage_version.specs.Kept.{AreKept}
 use Rattle.stored_state.specs.Both.{GoOnKept, Restores, StandForBoth}
 
--- its machine, the earlier release to which one may go back, the state, and the records with the revision of their store
+-- its machine, the earlier release to which one may go back, the state, and the records with the
+-- revision of their store
 pub record Server : Type 0 where
   pub machine : Machine
   pub back : Viewed
@@ -30,7 +31,8 @@ abbrev pub IsRestored : Server → List ℕ → State → Type 0
 IsRestored s bytes state =
     Restores s.back s.machine.view s.items s.revision s.state bytes state
 
--- the bytes of a file give the records that are kept of the server's for this state, and that stand for it by both releases
+-- the bytes of a file give the records that are kept of the server's for this state, and that stand
+-- for it by both releases
 pub record IsFound (s : Server) (bytes : List ℕ) (state : State) : Type 0 where
   pub records : List Item
   pub revision : ℕ

@@ -1,4 +1,5 @@
-//! What a server does on its front between two moments: turns, their sends, and what a stop leaves at each moment.
+//! What a server does on its front between two moments: turns, their sends, and what a stop leaves at
+//! each moment.
 #![tactic(auto)]
 
 mod law;

@@ -1,0 +1,9 @@
+pub mod ListLemmas
+pub mod GateFoldLemmas
+pub mod ApiFoldLemmas
+pub mod FieldFoldLemmas
+pub mod FoldLemmas
+pub mod RestLemmas
+pub mod SameFoldLemmas
+pub mod GateFaultLemmas
+pub mod ConfigFaultLemmas
