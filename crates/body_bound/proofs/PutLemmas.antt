@@ -167,7 +167,7 @@ puts_within back view kept history key object entry shaped one given (item, is, 
       of_kind = kind;
     } in
     let text = body_within given.version.table v.version.table (lawful_in view.versions given.version kept.lawful given.among) (lawful_in view.versions v.version kept.lawful v.among) same
-        Body given.body given.held object.fields (group_version v.version.table.group v.version.table.version) body.tree given.read given.kept names body.whole in
+    Body given.body given.held object.fields (group_version v.version.table.group v.version.table.version) body.tree given.read given.kept names body.whole in
     let size : length item.body ≡ length (compact_text body.tree) = ap length body.compact in
     let short : IsShortKey key = record {
       group = subst (λ (t : List ℕ). length t ≤ 63) v.of_group words.group_short;

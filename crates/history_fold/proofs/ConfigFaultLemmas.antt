@@ -235,12 +235,14 @@ module _ (h : Dated) (accepted : IsAccepted h) (o : ℕ) (from : floor_in h ≤ 
   fault_kept text OnlyAllFalse is = (OnlyAllFalse, inl refl, is)
   fault_kept text (At place cause) (inl is) = (At place cause, inl refl, inl is)
   fault_kept text (At place cause) (inr is) =
-      let seen = refusal_kept is.1.piece cause is.1.first.faulty in
-      (
+      let seen = refusal_kept is.1.piece cause is.1.first.faulty in (
         At place seen.0,
         fault_seen place cause seen.0 seen.1,
-        inr (is.0, first_with (λ p. IsTakenKey (cutoff h.apis o) p.name) (λ p. IsTakenKey (cutoff (apis_from h.apis (floor_in h)) o) p.name) (λ p. IsRefused h.apis o p cause) (λ p. IsRefused (apis_from h.apis (floor_in h)) o p seen.0)
-            (last_pieces (pieces text)) place (taken_along (cutoff h.apis o) (cutoff (apis_from h.apis (floor_in h)) o) same) is.1 seen.2),
+        inr (
+          is.0,
+          first_with (λ p. IsTakenKey (cutoff h.apis o) p.name) (λ p. IsTakenKey (cutoff (apis_from h.apis (floor_in h)) o) p.name) (λ p. IsRefused h.apis o p cause) (λ p. IsRefused (apis_from h.apis (floor_in h)) o p seen.0)
+              (last_pieces (pieces text)) place (taken_along (cutoff h.apis o) (cutoff (apis_from h.apis (floor_in h)) o) same) is.1 seen.2,
+        ),
       )
 
   fault_from : (text : List ℕ) (g : ConfigFault) → IsTextFault (apis_from h.apis (floor_in h)) o text g → (f : ConfigFault) × IsSeenAs f g × IsTextFault h.apis o text f
@@ -248,12 +250,14 @@ module _ (h : Dated) (accepted : IsAccepted h) (o : ℕ) (from : floor_in h ≤ 
   fault_from text OnlyAllFalse is = (OnlyAllFalse, inl refl, is)
   fault_from text (At place cause) (inl is) = (At place cause, inl refl, inl is)
   fault_from text (At place cause) (inr is) =
-      let seen = refusal_from is.1.piece cause is.1.first.faulty in
-      (
+      let seen = refusal_from is.1.piece cause is.1.first.faulty in (
         At place seen.0,
         fault_seen place seen.0 cause seen.1,
-        inr (is.0, first_with (λ p. IsTakenKey (cutoff (apis_from h.apis (floor_in h)) o) p.name) (λ p. IsTakenKey (cutoff h.apis o) p.name) (λ p. IsRefused (apis_from h.apis (floor_in h)) o p cause) (λ p. IsRefused h.apis o p seen.0)
-            (last_pieces (pieces text)) place (taken_along (cutoff (apis_from h.apis (floor_in h)) o) (cutoff h.apis o) back) is.1 seen.2),
+        inr (
+          is.0,
+          first_with (λ p. IsTakenKey (cutoff (apis_from h.apis (floor_in h)) o) p.name) (λ p. IsTakenKey (cutoff h.apis o) p.name) (λ p. IsRefused (apis_from h.apis (floor_in h)) o p cause) (λ p. IsRefused h.apis o p seen.0)
+              (last_pieces (pieces text)) place (taken_along (cutoff (apis_from h.apis (floor_in h)) o) (cutoff h.apis o) back) is.1 seen.2,
+        ),
       )
 
 pub faults_of_whole : (h : Dated) (o : ℕ) (text : List ℕ) → HasFaultsOfWhole h o text

@@ -75,8 +75,11 @@ module _ (xs ys : List GateEntry) (o : ℕ) (same : SayTheSame xs ys o) where
   fault_along text Memory h = tt
   fault_along text (At place cause) (inl h) = inl h
   fault_along text (At place cause) (inr h) =
-      inr (h.0, first_with (IsAccepted (cutoff xs o)) (IsAccepted (cutoff ys o)) (λ p. IsRefused xs o p cause) (λ p. IsRefused ys o p cause) (last_pieces (pieces text)) place accepted_along h.1
-      (refused_along h.1.piece cause h.1.first.faulty))
+      inr (
+        h.0,
+        first_with (IsAccepted (cutoff xs o)) (IsAccepted (cutoff ys o)) (λ p. IsRefused xs o p cause) (λ p. IsRefused ys o p cause) (last_pieces (pieces text)) place accepted_along h.1
+            (refused_along h.1.piece cause h.1.first.faulty),
+      )
 
 says_the_same : (gates : List GateEntry) (floor o : ℕ) → floor ≤ o → SayTheSame gates (gates_from gates floor) o
 says_the_same gates floor o from = record {
