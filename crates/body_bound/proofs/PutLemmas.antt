@@ -45,7 +45,7 @@ use Rattle.storage_version.proofs.StandingLemmas.{stored_version}
 
 level_short : (l : Level) → IsLevel l → length (level_text l) ≤ 8
 level_short Ga h = omega arith
-level_short (Beta n) h = let some = h.0 in let below = h.1 in
+level_short (Beta n) h = let below = h.1 in
     let digits = length-decimal-le 3 n (omega arith) (omega (arith, below)) (omega (arith, below)) in
     let both = length-append (codes "beta") (decimal n) in
     let word : length (codes "beta") ≡ 4 = refl in

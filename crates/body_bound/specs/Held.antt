@@ -31,8 +31,8 @@ abbrev pub held_bytes : List FieldRow → List FieldPair → ℕ
 held_bytes [] held = 0
 held_bytes (row ∷ rows) held = some_bytes (value_at held row.id) + held_bytes rows held
 
--- what is read of the tree has no more texts than the tree has, and a default for each row: a text of at most 1,024
--- bytes with its quotes
+-- what is read of the tree has no more texts than the tree has, and a default for each row: a text of
+-- at most 1,024 bytes with its quotes
 abbrev pub HoldsWithin : List FieldRow → Data → Type 0
 HoldsWithin rows tree = (mode : Mode) (held : List FieldPair) → Reads mode rows tree held
     → held_bytes rows held ≤ text_bytes tree + 1026 * length rows

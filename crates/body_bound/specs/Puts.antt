@@ -1,6 +1,6 @@
 -- How long an entry of the journal is that stores what a request gives an object.
 use Rattle.std.specs.Prelude.{◌≡◌, ◌≤◌, ℕ, List, Contains, length}
-use Rattle.body_bound.specs.Shown.{IsRead, HoldsLess}
+use Rattle.body_bound.specs.Shown.{IsRequestRead, HoldsLess}
 use Rattle.conversion.specs.declared.mode.Mode.TheVariants.{Body}
 use Rattle.fields.specs.declared.map.FieldPair.{FieldPair}
 use Rattle.object_journal.specs.Payload.{HasShortTexts, longest_payload, payload_of}
@@ -13,8 +13,8 @@ use Rattle.release_view.specs.declared.known.KnownVersion.{KnownVersion}
 use Rattle.schemas.specs.Dated.{Dated, IsShaped}
 use Rattle.storage_version.specs.Kept.{IsPutOf}
 
--- a request gives the object its fields, in a version of the key's resource: its body is read as them, and perhaps as
--- others that are dropped. The key is of a lawful namespace and name
+-- a request gives the object its fields, in a version of the key's resource: its body is read as them,
+-- and perhaps as others that are dropped. The namespace and the name are as short as a path has them
 pub record IsGiven (versions : List KnownVersion) (key : Key) (object : Object) : Type 0 where
   pub namespace : length key.namespace ≤ 63
   pub name : length key.name ≤ 253
@@ -24,7 +24,7 @@ pub record IsGiven (versions : List KnownVersion) (key : Key) (object : Object) 
   pub of_resource : version.table.resource ≡ key.resource
   pub body : List ℕ
   pub held : List FieldPair
-  pub read : IsRead Body version.table.rows body held
+  pub read : IsRequestRead Body version.table.rows body held
   pub kept : HoldsLess object.fields held
 
 -- the journal takes the entry
@@ -32,8 +32,8 @@ pub record IsWithin (e : Entry) : Type 0 where
   pub texts : HasShortTexts e.key
   pub payload : length (payload_of e) ≤ longest_payload
 
--- the journal takes each entry that puts, in its storage version, what a request gives an object, whichever history the
--- views are of
+-- the journal takes each entry that puts, in its storage version, what a request gives an object,
+-- whichever history the views are of
 abbrev pub PutsAreWithin : Viewed → Viewed → Type 0
 PutsAreWithin back view = (history : Dated) (key : Key) (object : Object) (entry : Entry)
     → IsShaped history → AreOfOneHistory history back view

@@ -15,13 +15,14 @@ use Rattle.serde_json.specs.Written.{compact_text}
 
 -- ---- of any fields
 
--- the object without metadata is written in at most six bytes for each byte of its texts, and 1,800 for each row: eight
--- names of at most 32 bytes, and a number
+-- the object without metadata is written in at most six bytes for each byte of its texts, and 1,800
+-- for each row: eight names of at most 32 bytes, and a number
 abbrev pub ShowsWithin : VersionTable → Type 0
 ShowsWithin table = (version : List ℕ) (held : List FieldPair) (tree : Data)
     → IsWhole table version held None tree
     → length (compact_text tree)
-    ≤ 6 * held_bytes table.rows held + 1800 * length table.rows + 6 * (length version + length table.kind) + 200
+    ≤ 6 * held_bytes table.rows held + 1800 * length table.rows
+    + 6 * (length version + length table.kind) + 200
 
 -- ---- of the fields of a request
 
@@ -30,7 +31,9 @@ abbrev pub longest_request : ℕ
 longest_request = 65536
 
 -- the bytes are short enough for a body, and are read by the rows as these fields
-pub record IsRead (mode : Mode) (rows : List FieldRow) (bytes : List ℕ) (held : List FieldPair) : Type 0 where
+pub record IsRequestRead
+    (mode : Mode) (rows : List FieldRow) (bytes : List ℕ) (held : List FieldPair)
+    : Type 0 where
   pub short : length bytes ≤ longest_request
   pub tree : Data
   pub text : read bytes ≡ Some tree
@@ -50,9 +53,11 @@ pub record HasShortNames (version kind : List ℕ) : Type 0 where
 abbrev pub longest_shown : ℕ
 longest_shown = 904000
 
--- fields that a body was read as by the one table, or some of them, are shown by the other in so many bytes at most
+-- fields that a body was read as by the one table, or some of them, are shown by the other in so many
+-- bytes at most
 abbrev pub BodyIsWithin : VersionTable → VersionTable → Type 0
-BodyIsWithin table shown = (mode : Mode) (bytes : List ℕ) (held kept : List FieldPair) (version : List ℕ) (tree : Data)
-    → IsRead mode table.rows bytes held → HoldsLess kept held
+BodyIsWithin table shown = (mode : Mode) (bytes : List ℕ) (held kept : List FieldPair)
+    (version : List ℕ) (tree : Data)
+    → IsRequestRead mode table.rows bytes held → HoldsLess kept held
     → HasShortNames version shown.kind → IsWhole shown version kept None tree
     → length (compact_text tree) ≤ longest_shown

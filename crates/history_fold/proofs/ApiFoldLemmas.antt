@@ -1,13 +1,12 @@
 -- Versions where a history is folded: what stays, and which rules are kept.
-use Rattle.std.proofs.Common.{ℕ, ◌≡◌, ◌↔◌, ◌+◌, ◌<◌, ◌≤◌, ◌&&◌, not, List, Bool, true, false, Option, Some, None, Contains, filter, take, refl, sym, ap, subst, ◌∙◌, arith, inl, inr}
-use Rattle.std.specs.Prelude.{nat_le, slice_get, Any, IsSomeAnd}
-use Rattle.std.specs.List.{list_any}
+use Rattle.std.proofs.Common.{ℕ, ◌≡◌, ◌↔◌, ◌<◌, ◌≤◌, not, List, true, Option, Some, None, Contains, filter, take, refl, sym, ap, subst, ◌∙◌, arith}
+use Rattle.std.specs.Prelude.{slice_get, Any, IsSomeAnd}
 use Rattle.std.proofs.lemmas.Bool.{both_ways, not-true, not_from_false, false_from_ne_true, false≢true}
-use Rattle.std.proofs.lemmas.List.Elements.{All-filter, All-weaker, All-contains}
+use Rattle.std.proofs.lemmas.List.Elements.{All-filter, All-contains}
 use Rattle.basis.proofs.ElementLemmas.{Any-weaker}
 use Rattle.basis.proofs.FilterLemmas.{Any-from_filter, Contains-from_filter, passes_from_filter}
-use Rattle.lifecycle.specs.Entry.{GroupVersionResource, subject, IsIntroduction, IsRemoval, IsKnownOf, IsIntroduced, IsRemoved, IsLive}
-use Rattle.lifecycle.specs.Tables.{is_forgetting, is_change_by}
+use Rattle.lifecycle.specs.Entry.{GroupVersionResource, subject, IsIntroduction, IsRemoval, IsKnownOf, IsLive}
+use Rattle.lifecycle.specs.Tables.{is_forgetting}
 use Rattle.lifecycle.specs.declared.entry.ApiChange.{ApiChange}
 use Rattle.lifecycle.specs.declared.entry.ApiChange.TheVariants.{Introduced, Deprecated, Removed, Forgotten}
 use Rattle.lifecycle.specs.declared.entry.ApiEntry.{ApiEntry}

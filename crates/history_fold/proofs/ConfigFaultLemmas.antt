@@ -1,8 +1,7 @@
 -- Runtime configurations by a history that is folded have the faults that they have by the whole one, but for keys of what is forgotten.
-use Rattle.std.proofs.Common.{ℕ, zero, suc, ◌≡◌, ◌↔◌, ◌⊎◌, ◌&&◌, ◌+◌, ◌<◌, ◌≤◌, not, List, Bool, true, false, Option, Some, None, Contains, take, refl, sym, ap, subst, ◌∙◌, arith, inl, inr}
-use Rattle.std.specs.Prelude.{nat_le, slice_get, Any, IsSomeAnd}
-use Rattle.std.specs.List.{list_any}
-use Rattle.std.proofs.lemmas.Bool.{cases_Bool, and_parts, and_from, false_from_ne_true, false≢true, le-leb, leb-true, not_from_false}
+use Rattle.std.proofs.Common.{ℕ, zero, suc, ◌≡◌, ◌⊎◌, ◌&&◌, ◌+◌, ◌<◌, ◌≤◌, not, List, true, false, Option, Some, None, Contains, take, refl, sym, ap, subst, ◌∙◌, arith, inl, inr}
+use Rattle.std.specs.Prelude.{nat_le, slice_get, IsSomeAnd}
+use Rattle.std.proofs.lemmas.Bool.{cases_Bool, and_parts, and_from, false_from_ne_true, false≢true, le-leb, not_from_false}
 use Rattle.std.proofs.lemmas.List.Folds.{Any-from_list_any, list_any-from_Any}
 use Rattle.std.proofs.lemmas.Option.{slice_get_within, get_or_from_slice_get}
 use Rattle.basis.proofs.ElementLemmas.{Any-from}
@@ -32,7 +31,7 @@ use Rattle.schemas.proofs.AcceptedLemmas as hr
 use Rattle.schemas.proofs.LawLemmas.{any_stands, introduced_later}
 use Rattle.schemas.proofs.PreviousLemmas.{IsLast}
 use Rattle.history_cut.proofs.ApiOrderLemmas.{previous_is}
-use Rattle.history_fold.specs.Folded.{is_forgotten, apis_from, floor_in, folded}
+use Rattle.history_fold.specs.Folded.{is_forgotten, apis_from, floor_in}
 use Rattle.history_fold.specs.Laws.{IsSeenAs, HasFaultsOfWhole}
 use Rattle.history_fold.proofs.ApiFoldLemmas.{forgotten_said, named_by}
 use Rattle.history_fold.proofs.GateFaultLemmas.{same_faults}

@@ -1,6 +1,6 @@
 -- Fields and spellings where a history is folded: which rules are kept.
-use Rattle.std.proofs.Common.{ℕ, ◌≡◌, ◌+◌, ◌<◌, ◌≤◌, not, List, Bool, true, false, Option, Some, None, Contains, max, take, refl, sym, ap, subst, ◌∙◌, arith, inl, inr}
-use Rattle.std.specs.Prelude.{slice_get, All, Any, IfSome, IsSomeAnd}
+use Rattle.std.proofs.Common.{ℕ, ◌≡◌, ◌+◌, ◌≤◌, not, List, true, Option, Some, None, max, take, sym, ap, subst, ◌∙◌, arith, inl, inr}
+use Rattle.std.specs.Prelude.{slice_get, Any, IfSome}
 use Rattle.std.proofs.lemmas.Bool.{cases_Bool, not_from_false}
 use Rattle.std.proofs.lemmas.List.Elements.{All-filter}
 use Rattle.basis.proofs.ElementLemmas.{Any-from, Any-weaker}
@@ -16,7 +16,7 @@ use Rattle.lifecycle.specs.declared.entry.ApiEntry.{ApiEntry}
 use Rattle.lifecycle.proofs.TableLemmas.{subject_is}
 use Rattle.schemas.specs.ApiRules.{is_of_version, previous_of_version, name_of, IsForgetting, IsForgotten, IsPlanned, IsKept, IsLateAfter, IsForgottenLate}
 use Rattle.schemas.specs.Dated.{Dated}
-use Rattle.schemas.specs.FieldRules.{AreOneField, begins_at, BelongsToResource, IsRequiredFairly, HasKnownGate, IsSpelledThroughout}
+use Rattle.schemas.specs.FieldRules.{begins_at, BelongsToResource, IsRequiredFairly, HasKnownGate, IsSpelledThroughout}
 use Rattle.schemas.specs.Laws.{IsKindLive}
 use Rattle.schemas.specs.Pairs.{IntroducesVersionOf, IsPair, IsOfField, IsOfVersion, IsSpelling, SpellsPair, IsPaired, AreForOneVersion, AreOfOnePair}
 use Rattle.schemas.specs.Places.{Each}

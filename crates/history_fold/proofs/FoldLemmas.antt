@@ -1,5 +1,5 @@
 -- A history that is folded keeps its shapes and its rules.
-use Rattle.std.proofs.Common.{ℕ, ◌≡◌, ◌≤◌, ◌-◌, not, max, List, [], ◌∷◌, ◌++◌, Option, Some, None, subst, sym, arith}
+use Rattle.std.proofs.Common.{ℕ, ◌≡◌, ◌≤◌, not, List, [], ◌∷◌, ◌++◌, Option, Some, None, subst, sym, arith}
 use Rattle.std.specs.Prelude.{IsSomeAnd, unwrap_or}
 use Rattle.std.specs.List.{AllByRecursion}
 use Rattle.std.proofs.ByRecursion.{all_kept_by}

@@ -1,11 +1,10 @@
 -- Texts of gates by a history that is folded have the faults that they have by the whole one.
-use Rattle.std.proofs.Common.{ℕ, ◌≡◌, ◌↔◌, ◌⊎◌, ◌<◌, ◌≤◌, not, List, Bool, true, false, Contains, refl, ◌∙◌, arith, inl, inr}
+use Rattle.std.proofs.Common.{ℕ, ◌↔◌, ◌<◌, ◌≤◌, not, List, true, Contains, refl, ◌∙◌, arith, inl, inr}
 use Rattle.std.proofs.lemmas.Bool.{cases_Bool, not_from_false}
 use Rattle.basis.proofs.FilterLemmas.{Contains-filter, Contains-from_filter}
-use Rattle.flag_text.specs.Passes.{StopsAt}
 use Rattle.flag_text.specs.Pieces.{FlagPiece, pieces, last_pieces}
 use Rattle.flag_text.proofs.PassLemmas.{first_with}
-use Rattle.gate_flags.specs.Flags.{IsAllWord, IsSettable, IsAccepted, IsRefused, IsTextFault}
+use Rattle.gate_flags.specs.Flags.{IsAccepted, IsRefused, IsTextFault}
 use Rattle.gate_flags.specs.declared.fault.GateCause.{GateCause}
 use Rattle.gate_flags.specs.declared.fault.GateCause.TheVariants.{Missing, BadBool, Unknown, PreAlpha, Locked}
 use Rattle.gate_flags.specs.declared.fault.GateFault.{GateFault}

@@ -1,7 +1,7 @@
 -- Gates where a history is folded: what stays, which rules are kept, and that each release from the floor on knows the same.
-use Rattle.std.proofs.Common.{ℕ, zero, suc, ◌≡◌, ◌↔◌, ◌⊎◌, ◌+◌, ◌<◌, ◌≤◌, ◌&&◌, not, List, Bool, true, false, Option, Some, None, Contains, filter, length, take, refl, sym, ap, subst, ◌∙◌, arith, inl, inr}
-use Rattle.std.specs.Prelude.{nat_le, nat_lt, slice_get, All, Any, IfSome, IsSomeAnd}
-use Rattle.std.specs.List.{AllByRecursion, list_any}
+use Rattle.std.proofs.Common.{ℕ, zero, suc, ◌≡◌, ◌⊎◌, ◌+◌, ◌<◌, ◌≤◌, ◌&&◌, not, List, Bool, true, false, Option, Some, None, Contains, filter, length, take, refl, sym, ap, subst, ◌∙◌, arith, inl, inr}
+use Rattle.std.specs.Prelude.{nat_le, nat_lt, slice_get, Any, IfSome, IsSomeAnd}
+use Rattle.std.specs.List.{list_any}
 use Rattle.std.specs.Str.{bytes_eq}
 use Rattle.std.proofs.ByRecursion.{all_kept_by}
 use Rattle.std.proofs.lemmas.Bool.{cases_Bool, cases_order, and_parts, and_from, both_ways, not-true, not_from_false, false_from_ne_true, false≢true, leb-true, le-leb, ltb-true, lt-ltb}
@@ -11,13 +11,12 @@ use Rattle.std.proofs.lemmas.Option.{slice_get_within}
 use Rattle.std.proofs.lemmas.Slice.Eq.{bytes_eq-Decides}
 use Rattle.basis.proofs.ElementLemmas.{Any-from, Any-weaker}
 use Rattle.basis.proofs.FilterLemmas.{Contains-filter, Contains-from_filter, passes_from_filter}
-use Rattle.gate_spec.specs.Gates.{RisesInDate, cutoff, HasGate, IsNewest, IsFoundIn, is_spec, specs_of, IsLastDefault, IsRemovedIn}
+use Rattle.gate_spec.specs.Gates.{RisesInDate, cutoff, HasGate, IsNewest, is_spec, specs_of, IsLastDefault}
 use Rattle.gate_spec.specs.Same.{AreSameGates}
 use Rattle.gate_spec.specs.declared.entry.GateChange.{GateChange}
 use Rattle.gate_spec.specs.declared.entry.GateChange.TheVariants.{Spec, Gone}
 use Rattle.gate_spec.specs.declared.entry.GateEntry.{GateEntry}
-use Rattle.gate_spec.specs.declared.entry.Stage.{Stage}
-use Rattle.schemas.specs.GateRules.{is_of_gate, previous_of_gate, IsGone, IsLockedSpec, RisesFrom, RisesInGate, FitsStage, IsRipe, FollowsLockedSpec}
+use Rattle.schemas.specs.GateRules.{is_of_gate, previous_of_gate, IsGone, IsLockedSpec, RisesInGate, FitsStage, IsRipe, FollowsLockedSpec}
 use Rattle.schemas.specs.Places.{Each}
 use Rattle.schemas.specs.Rules.{IsGateBy}
 use Rattle.schemas.proofs.LawLemmas.{any_stands}

@@ -7,3 +7,4 @@ pub mod RestLemmas
 pub mod SameFoldLemmas
 pub mod GateFaultLemmas
 pub mod ConfigFaultLemmas
+pub mod OnceLemmas

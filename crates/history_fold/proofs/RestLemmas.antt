@@ -1,5 +1,5 @@
 -- What stays where a history is folded.
-use Rattle.std.proofs.Common.{ℕ, ◌≡◌, ◌↔◌, not, List, Contains}
+use Rattle.std.proofs.Common.{ℕ, ◌↔◌, not, List, Contains}
 use Rattle.basis.proofs.FilterLemmas.{Contains-filter, Contains-from_filter, passes_from_filter}
 use Rattle.fields.specs.declared.field.Spell.{Spell}
 use Rattle.gate_spec.specs.declared.entry.GateEntry.{GateEntry}
@@ -7,7 +7,7 @@ use Rattle.lifecycle.specs.Entry.{subject}
 use Rattle.lifecycle.specs.declared.entry.ApiEntry.{ApiEntry}
 use Rattle.schemas.specs.ApiRules.{IsForgotten}
 use Rattle.schemas.specs.Dated.{Dated}
-use Rattle.history_fold.specs.Folded.{IsPast, is_past, is_forgotten, version_of, gates_from, apis_from, spells_from, floor_in, folded}
+use Rattle.history_fold.specs.Folded.{IsPast, is_past, is_forgotten, version_of, gates_from, apis_from, spells_from, floor_in}
 use Rattle.history_fold.specs.Laws.{KeepsTheRest}
 use Rattle.history_fold.proofs.ApiFoldLemmas as on_apis
 use Rattle.history_fold.proofs.GateFoldLemmas as on_gates

@@ -1,8 +1,8 @@
 -- At a release from the floor on a folded history has the tables of the whole one.
-use Rattle.std.proofs.Common.{ℕ, ◌≡◌, ◌↔◌, ◌≤◌, ◌&&◌, not, List, Bool, true, false, Option, Some, None, Contains, refl, sym, ap, subst, ◌∙◌, arith, inl, inr}
-use Rattle.std.specs.Prelude.{nat_le, find, Any, IfSome, IsTrue, cond}
+use Rattle.std.proofs.Common.{ℕ, ◌≡◌, ◌↔◌, ◌≤◌, ◌&&◌, not, List, Bool, true, false, Option, None, Contains, refl, sym, ap, subst, ◌∙◌, arith, inl, inr}
+use Rattle.std.specs.Prelude.{nat_le, Any, IfSome, IsTrue, cond}
 use Rattle.std.specs.Option.{is_some, option_and_then}
-use Rattle.std.proofs.lemmas.Bool.{cases_Bool, and_parts, and_left, not_from_true, not_from_false, false_from_ne_true, false≢true}
+use Rattle.std.proofs.lemmas.Bool.{cases_Bool, and_parts, not_from_true, false_from_ne_true, false≢true}
 use Rattle.basis.proofs.ElementLemmas.{Any-from, Any-weaker}
 use Rattle.basis.proofs.FilterLemmas.{Contains-filter, Contains-from_filter, passes_from_filter}
 use Rattle.fields.specs.declared.field.Field.{Field}
@@ -11,25 +11,25 @@ use Rattle.fields.specs.declared.table.FieldRow.{FieldRow}
 use Rattle.gate_flags.specs.Values.{Gates, HasValue}
 use Rattle.gate_spec.specs.Gates.{cutoff as gate_cutoff}
 use Rattle.gate_spec.specs.Same.{AreSameGates}
-use Rattle.lifecycle.specs.Entry.{GroupVersionResource, subject, IsLive}
+use Rattle.lifecycle.specs.Entry.{GroupVersionResource, subject}
 use Rattle.lifecycle.specs.Same.{introduction_of, introduced_as, AreSameVersions}
 use Rattle.lifecycle.specs.Tables.{cutoff, is_of, is_introduction, is_deprecation, is_removal, is_forgetting, first_change, has_change, live, decodable, deprecation_of, warning}
 use Rattle.lifecycle.specs.declared.entry.ApiChange.{ApiChange}
 use Rattle.lifecycle.specs.declared.entry.ApiEntry.{ApiEntry}
 use Rattle.lifecycle.proofs.TableLemmas.{first_change-cutoff, live_dated, subject_is}
-use Rattle.release_view.specs.Same.{HaveSameRows, HaveSameTables, SpeaksOf}
+use Rattle.release_view.specs.Same.{HaveSameTables, SpeaksOf}
 use Rattle.release_view.proofs.SameViewLemmas.{same_views, same_texts}
 use Rattle.row_index.specs.Laws.{AreRowsOf, source_at}
 use Rattle.schemas.specs.ApiRules.{IsForgotten}
 use Rattle.schemas.specs.Cutoff.{cutoff as history_cutoff, fields_by, spells_by}
 use Rattle.schemas.specs.Dated.{Dated}
-use Rattle.schemas.specs.Pairs.{IsOfField, IsOfVersion, IsSpelling}
+use Rattle.schemas.specs.Pairs.{IsOfVersion, IsSpelling}
 use Rattle.schemas.specs.Rows.{IsSpelledAs, IsRow, AreRows}
 use Rattle.schemas.specs.Rules.{IsAccepted, first_of, last_of}
 use Rattle.schemas.proofs.DecodableLemmas.{decodable_dated}
 use Rattle.history_cut.proofs.CutLemmas.{cut_once}
 use Rattle.history_fold.specs.Folded.{is_forgotten, version_of, gates_from, apis_from, spells_from, floor_in, folded}
-use Rattle.history_fold.specs.Laws.{HasTablesOfWhole, IsFromFloor, IsViewedAlike, IsViewedAsWhole}
+use Rattle.history_fold.specs.Laws.{HasTablesOfWhole, IsViewedAsWhole}
 use Rattle.history_fold.proofs.ApiFoldLemmas.{forgotten_said, forgotten_later, entry_stays}
 use Rattle.history_fold.proofs.FieldFoldLemmas.{live_stays, spell_stays}
 use Rattle.history_fold.proofs.FoldLemmas.{first_below}

@@ -21,6 +21,10 @@ use Rattle.history_fold.specs.Folded.{IsPast, version_of, floor_in, folded}
 abbrev pub IsAcceptedWhereFolded : Dated → Type 0
 IsAcceptedWhereFolded h = IsAccepted h → IsAccepted (folded h)
 
+-- a second fold changes nothing: the floor is that of the folded history too
+abbrev pub IsFoldedOnce : Dated → Type 0
+IsFoldedOnce h = folded (folded h) ≡ folded h
+
 -- what stays: the entries of gates that aren't past, and of versions those, and their spellings,
 -- that aren't forgotten
 pub record KeepsTheRest (h : Dated) : Type 0 where

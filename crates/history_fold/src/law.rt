@@ -1,5 +1,5 @@
 //! What follows from the definition of a fold, each as the contract of a function that does nothing.
-ghost use Rattle.history_fold.specs.Laws.{IsAcceptedWhereFolded, KeepsTheRest, HasTablesOfWhole, IsViewedAsWhole, HasFaultsOfWhole};
+ghost use Rattle.history_fold.specs.Laws.{IsAcceptedWhereFolded, IsFoldedOnce, KeepsTheRest, HasTablesOfWhole, IsViewedAsWhole, HasFaultsOfWhole};
 
 use minor_version::Minor;
 use schemas::History;
@@ -7,6 +7,13 @@ use schemas::History;
 /// An accepted history that is folded is accepted: the fold keeps each of the rules HR1 to HR16.
 pub fn folded_is_accepted(history: &History)
     ensures { IsAcceptedWhereFolded history.now }
+{
+    let _gates = &history.gates;
+}
+
+/// A history that is folded twice is as it is where it is folded once.
+pub fn folded_twice_is_once(history: &History)
+    ensures { IsFoldedOnce history.now }
 {
     let _gates = &history.gates;
 }

@@ -9,5 +9,5 @@ mod past;
 pub use folding::fold;
 pub use law::{
     folded_has_same_faults, folded_has_same_tables, folded_is_accepted, folded_is_viewed_alike,
-    folded_keeps_the_rest,
+    folded_keeps_the_rest, folded_twice_is_once,
 };
