@@ -1,12 +1,11 @@
 -- What a session leaves, from a course by whose turns it ends.
-use Rattle.std.proofs.Common.{◌≡◌, ℕ, ◌≤◌, List, [], ◌++◌, All, Result, ap, subst}
+use Rattle.std.proofs.Common.{◌≡◌, ℕ, ◌≤◌, List, ◌++◌, All, subst}
 use Rattle.disk.specs.Beside.{Beside, Sent}
 use Rattle.disk.specs.Images.{Images}
 use Rattle.session_course.proofs.CourseLemmas.{found_throughout, sends_are_all}
-use Rattle.session_course.specs.Courses.{Course, LeavesFound, Throughout}
+use Rattle.session_course.specs.Courses.{LeavesFound, Throughout}
 use Rattle.session_course.specs.Sends.{AreSent, exchanges}
 use Rattle.session_ends.specs.Laws.{ServesByCourse}
-use Rattle.session_turns.specs.Turns.{Turn}
 
 module _ {W : Type 0} (clock : W → ℕ) (may_leave : W → ℕ → Images → Type 0) (beside : W → Beside) where
   pub serves_by : ServesByCourse clock may_leave beside

@@ -1,20 +1,18 @@
 -- The items of a piece, one further, and the turns that they have.
-use Rattle.std.proofs.Common.{◌≡◌, ◌≢◌, ◌⊎◌, inl, inr, ⊎_elim, ℕ, ◌+◌, ◌≤◌, ◌<◌, false, List, [], ◌∷◌, ◌++◌, Option, Some, None, option_map, refl, sym, ◌∙◌, ap, subst, append_assoc, arith}
+use Rattle.std.proofs.Common.{◌≢◌, ◌⊎◌, ⊎_elim, ℕ, ◌+◌, ◌≤◌, ◌<◌, List, [], ◌∷◌, ◌++◌, Some, refl, sym, ◌∙◌, subst, append_assoc, arith}
 use Rattle.std.proofs.lemmas.List.{append-nil}
-use Rattle.conn_mux.specs.Flows.{flow_with}
-use Rattle.conn_mux.specs.Held.{Held, flow_of, Appends, Holds, KeepsAll, KeepsOthers, Takes}
+use Rattle.conn_mux.specs.Held.{Held, Appends, KeepsOthers, Takes}
 use Rattle.conn_mux.specs.Items.{item_of}
-use Rattle.conn_mux.specs.Orders.{Streams, streams_after, brings, drops}
-use Rattle.conn_mux.specs.declared.flow.Flow.{Flow}
+use Rattle.conn_mux.specs.Orders.{Streams}
 use Rattle.conn_mux.specs.declared.incoming.Incoming.{Incoming}
 use Rattle.disk.specs.Beside.{Piece}
 use Rattle.http_front.specs.Items.{Item}
 use Rattle.session_ends.specs.Laws.{GivesFirst, GivesTurns}
-use Rattle.session_ends.specs.Pieces.{AreAllTurns, AreFresh, AreSomeTurns, GaveAll, GaveItems, GaveLast}
+use Rattle.session_ends.specs.Pieces.{AreFresh, GaveAll, GaveItems, GaveLast}
 use Rattle.session_turns.proofs.CaughtLemmas.{amid_begins, amid_drop, amid_ends, amid_takes}
 use Rattle.session_turns.proofs.TurnLemmas.{behind_ended, behind_going, piece_cut, piece_first, piece_whole, some_ended}
 use Rattle.session_turns.specs.Caught.{AreCaughtUp, IsAmid}
-use Rattle.session_turns.specs.Turns.{Turn, AreFirstOf, AreOf, AreTurnsOf, Position, behind, items_in, some_ends}
+use Rattle.session_turns.specs.Turns.{Turn, AreOf, AreTurnsOf, Position, behind, items_in}
 
 -- ---- items that a mux gave
 

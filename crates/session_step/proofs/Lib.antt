@@ -1,0 +1,4 @@
+-- CarryLemmas: what carrying out a request leaves.
+-- AnswerLemmas: the course of an answer.
+pub mod CarryLemmas
+pub mod AnswerLemmas
