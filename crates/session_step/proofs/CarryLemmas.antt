@@ -1,6 +1,6 @@
 -- What carrying out a request leaves.
-use Rattle.std.proofs.Common.{◌≡◌, ◌⊎◌, inl, inr, ⊎_elim, ℕ, refl, sym, ap, subst, ◌∙◌}
-use Rattle.std.specs.Prelude.{Option, Some, None}
+use Rattle.std.proofs.Common.{◌≡◌, ◌⊎◌, inl, inr, ⊎_elim, ℕ, refl, sym, ap, subst, ◌∙◌, ◌+◌}
+use Rattle.std.specs.Prelude.{Option, Some, None, option_map}
 use Rattle.api_requests.proofs.ChangeLemmas.{can_apply}
 use Rattle.api_requests.proofs.RoomLemmas.{goes_on_before}
 use Rattle.api_requests.proofs.StopLemmas.{step_of}
@@ -8,6 +8,7 @@ use Rattle.api_requests.specs.Finishing.{GoesOn, LeavesState}
 use Rattle.api_requests.specs.Prepared.{change_of, decided_of}
 use Rattle.api_requests.specs.Serving.{Serving, IsAsBefore, IsServing}
 use Rattle.api_requests.specs.declared.prepared.Prepared.{Prepared}
+use Rattle.api_requests.specs.declared.prepared.Write.{Write}
 use Rattle.disk.proofs.ImageLemmas.{goes_on, weaker}
 use Rattle.disk.specs.Images.{Pending, Images}
 use Rattle.disk.specs.Moments.{Unchanged}
@@ -25,7 +26,7 @@ use Rattle.plain_machine.specs.Deciding.{IsDecided}
 use Rattle.session_course.proofs.CourseLemmas.{idle_moments}
 use Rattle.session_course.specs.Servers.{IsRestored}
 use Rattle.session_step.specs.Carried.{IsCarriedOut, IsSafe, IsTried, LeavesOneOf}
-use Rattle.session_step.specs.Taken.{server_of}
+use Rattle.session_step.specs.Taken.{ChangesState, server_of}
 use Rattle.session_step.specs.declared.outgoing.Outgoing.{Outgoing}
 
 -- ---- the next state
@@ -37,6 +38,22 @@ one_next (Some change) s a b h k = one_state s change a b h k
 some_next : (change : Option Change) (s : State) → AreInKeyOrder s.objects → (next : State) × IsNext s change next
 some_next None s order = (s, refl)
 some_next (Some change) s order = can_apply s change order
+
+some_change : (write : Option Write) (s : State) → (write ≡ None → ⊥) → AreInKeyOrder s.objects
+    → (next : State) × IsNext s (option_map (λ (w : Write). w.change) write) next × (next.revision ≡ s.revision + 1)
+some_change None s some order = absurd (some refl)
+some_change (Some w) s some order = let made = can_apply s w.change order in (made.0, made.1, made.1.revision)
+
+-- a request that has something to write
+pub changes_state : (s : Serving) (q : Request) (p : Prepared) → IsServing s → IsDecided s.machine s.state q (decided_of p) → (p.write ≡ None → ⊥) → ChangesState (server_of s) (taken_request q)
+changes_state s q p serves decided some =
+    let next = some_change p.write s.state some serves.stand.later.order in
+    record {
+      reply = p.reply;
+      next = next.0;
+      answered = step_of s.machine s.state q (decided_of p) next.0 decided next.1;
+      rises = next.2;
+    }
 
 -- the room that the store took doesn't matter
 next_before : (old mid : Serving) (change : Option Change) (next : State) → IsAsBefore old mid → IsNext mid.state change next → IsNext old.state change next

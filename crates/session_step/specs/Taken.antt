@@ -1,9 +1,12 @@
 -- A call of a session on its server and its front.
-use Rattle.std.specs.Prelude.{◌≡◌, ◌≤◌, ℕ, length}
+use Rattle.std.specs.Prelude.{◌≡◌, ◌+◌, ◌≤◌, ℕ, length}
 use Rattle.api_requests.specs.Serving.{Serving}
 use Rattle.basis.specs.Counts.{Rose}
 use Rattle.disk.specs.Beside.{Beside}
 use Rattle.http_front.specs.Items.{Item}
+use Rattle.http_front.specs.declared.reply.Reply.{Reply}
+use Rattle.object_state.specs.State.{State}
+use Rattle.served_steps.specs.Steps.{IsAnswered}
 use Rattle.session_course.specs.Servers.{Server}
 use Rattle.session_turns.specs.Turns.{Turn}
 
@@ -37,3 +40,10 @@ pub record CountsFailure (old new : ℕ) (failed : Type 0) : Type 0 where
 -- the send mark isn't above the front's count
 abbrev pub IsMarked : Beside → Type 0
 IsMarked b = b.send_mark ≤ b.front_faults
+
+-- the item has a reply after which the server is at the next revision
+pub record ChangesState (s : Server) (item : Item) : Type 0 where
+  pub reply : Reply
+  pub next : State
+  pub answered : IsAnswered s.machine s.state item reply next
+  pub rises : next.revision ≡ s.state.revision + 1

@@ -7,7 +7,7 @@ ghost use Rattle.http_front.specs.Items.{refused, taken_request};
 ghost use Rattle.session_course.specs.Courses.{Course};
 ghost use Rattle.session_course.specs.Servers.{Continues};
 ghost use Rattle.session_step.specs.Carried.{IsCarriedOut, IsRefusal, IsSafe, IsTried, MakesRoom};
-ghost use Rattle.session_step.specs.Taken.{CountsFailure, IsMarked, IsTurnOf, TakesNone, server_of};
+ghost use Rattle.session_step.specs.Taken.{ChangesState, CountsFailure, IsMarked, IsTurnOf, TakesNone, server_of};
 ghost use Rattle.session_turns.specs.Turns.{Turn, ends_connection};
 
 use crate::outgoing::{Outgoing, outgoing_of};
@@ -32,6 +32,8 @@ fn carry_out<W: Front>(
         (server_of service.old) service.new.state world.old world.new) }
     ensures tried { W.tells → IsErrOf result HandleFault.Disk → IsTried W.clock W.may_leave
         (server_of service.old) (taken_request request.now) world.old world.new }
+    ensures changes { IsErrOf result HandleFault.Disk
+        → ChangesState (server_of service.old) (taken_request request.now) }
     ensures ended { IsErrOf result HandleFault.Disk → service.new.store.journal.ended ≡ true }
     ensures same { IsErr result → server_of service.new ≡ server_of service.old }
     ensures idle { W.tells → IsErrOf result HandleFault.Memory
@@ -82,6 +84,8 @@ fn carried<W: Front>(
         (server_of service.old) service.new.state world.old world.new) }
     ensures tried { W.tells → IsErrOf result HandleFault.Disk → IsTried W.clock W.may_leave
         (server_of service.old) (item_of incoming.now) world.old world.new }
+    ensures changes { IsErrOf result HandleFault.Disk
+        → ChangesState (server_of service.old) (item_of incoming.now) }
     ensures ended { IsErrOf result HandleFault.Disk → service.new.store.journal.ended ≡ true }
     ensures same { IsErr result → server_of service.new ≡ server_of service.old }
     ensures idle { W.tells → IsErrOf result HandleFault.Memory
@@ -127,10 +131,17 @@ pub fn answer<W: Front>(
         × Course W.clock W.may_leave W.beside (server_of service.old) (server_of service.new)
         world.old world.new [] (t ∷ []) }
 
-    // Where memory ran out, nothing was begun.
+    // The disk fails only in a change.
+    ensures changes { IsErrOf result HandleFault.Disk
+        → ChangesState (server_of service.old) (item_of incoming.now) }
+
+    // Where memory ran out, nothing was begun, and the disk wasn't called.
     ensures memory { W.tells → IsErrOf result HandleFault.Memory
         → Course W.clock W.may_leave W.beside (server_of service.old) (server_of service.new)
         world.old world.new [] [] }
+    ensures idle { W.tells → IsErrOf result HandleFault.Memory
+        → Unchanged W.clock W.may_leave W.held W.pending world.old world.new }
+    ensures clock { IsErrOf result HandleFault.Memory → W.clock world.new ≡ W.clock world.old }
 
     ensures stands { ¬ IsErrOf result HandleFault.Disk
         → StandsOnDisk W.tells (W.held world.new) (W.pending world.new) service.new }
