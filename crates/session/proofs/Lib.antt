@@ -1,0 +1,5 @@
+pub mod AnswerLemmas
+pub mod ServingLemmas
+pub mod EventLemmas
+pub mod LoopLemmas
+pub mod NextLemmas
