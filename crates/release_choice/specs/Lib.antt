@@ -1,0 +1,2 @@
+-- Choice: the releases that texts choose of a history.
+pub mod Choice
