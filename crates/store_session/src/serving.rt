@@ -48,3 +48,34 @@ fn session_fault(fault: SessionFault) -> StoreFault {
         SessionFault::Spent => StoreFault::Spent,
     }
 }
+
+/// Opens the store of the front's disk, starts a server from its records, and serves the connections of the front until it
+/// ends. The server emulates the release of `view`, by a binary of `release`; both views are of one history, and `back` is
+/// that of the minimum compatibility. Memory may run out at the opening, at the start, and between two writes.
+pub fn serve_store<W: Front>(
+    alloc: Global,
+    view: View,
+    back: View,
+    release: Minor,
+    world: &mut W,
+) -> Result<Served, StoreFault>
+    requires one { (history : Dated) × AreOfOneHistory history back view }
+    requires start { IsAtStart (W.beside world.old) }
+    ensures ends { W.tells → IsStoreEnd W.clock W.may_leave W.held W.pending W.beside
+        (record { view = view; release = release; back = back.minor }) back world.old world.new result }
+    ensures faults { CountsFailure (W.faults world.old) (W.faults world.new) (IsErrOf result StoreFault.Disk) }
+    ensures front { IsErrOf result StoreFault.Front → IsAboveMark (W.beside world.new) }
+{
+    let store = match open_store(alloc, world) {
+        Ok(store) => store,
+        Err(fault) => return Err(opening_fault(fault)),
+    };
+    let mut service = match start(alloc, view, back, release, store) {
+        Ok(service) => service,
+        Err(fault) => return Err(start_fault(fault)),
+    };
+    match session(alloc, &mut service, world) {
+        Ok(served) => Ok(served),
+        Err(fault) => Err(session_fault(fault)),
+    }
+}
