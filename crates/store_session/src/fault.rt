@@ -8,7 +8,10 @@ use std::fmt;
 #[derive(Debug, Drop)]
 pub enum StoreFault {
     /// A file of the store breaks the journal's grammar at this place, in bytes.
-    NotAStore { file: File, at: u64 },
+    NotAStore {
+        file: File,
+        at: u64,
+    },
     /// The record under this key is in a version, as its body tells it, that this release doesn't read.
     Undecodable {
         key: Key,

@@ -66,11 +66,13 @@ fn started(
 {
     match start(alloc, view, back, release, store) {
         Ok(service) => Ok(service),
-        Err(StartFault::Undecodable {
-            key,
-            version,
-            minor,
-        }) => Err(StoreFault::Undecodable {
+        Err(
+            StartFault::Undecodable {
+                key,
+                version,
+                minor,
+            },
+        ) => Err(StoreFault::Undecodable {
             key,
             version,
             minor,
