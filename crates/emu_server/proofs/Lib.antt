@@ -1,5 +1,4 @@
-pub mod WordLemmas
-pub mod TopLemmas
-pub mod RangeLemmas
-pub mod ReleaseLemmas
+pub mod HistoryLemmas
 pub mod OneLemmas
+pub mod TopLemmas
+pub mod ServingLemmas

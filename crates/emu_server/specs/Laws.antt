@@ -1,12 +1,8 @@
 -- What follows from the definition of an answer.
-use Rattle.std.specs.Prelude.{ℕ, ◌≡◌, List}
+use Rattle.std.specs.Prelude.{ℕ, List}
+use Rattle.commands.specs.Laws.{AreOne}
 use Rattle.emu_server.specs.Answer.{IsAnswer}
-use Rattle.emu_server.specs.declared.status.Status.{Status}
-
--- two answers have one status and one text
-pub record AreOne (s t : Status) (line other : List ℕ) : Type 0 where
-  pub statuses : s ≡ t
-  pub texts : line ≡ other
+use Rattle.commands.specs.declared.status.Status.{Status}
 
 -- all answers to these words and the bytes of a history are one
 abbrev pub HasOneAnswer : List (List ℕ) → List ℕ → Type 0

@@ -1,25 +1,18 @@
--- Numbers: the number of each status.
--- Words: what words give to options, and that they ask for a command with these.
--- Answers: what holds of an answer's status and text.
--- Emulated: the release that a command emulates, and why one is refused.
--- Check, Discover, Gates, Convert: a command each, its words, its lines and what it is to answer.
--- Commands: what words ask for, and the work of each command.
 -- Lines: the lines of no words, of a failed read and of a refused history.
+-- Histories: the history that bytes are, or why they are none that is accepted.
 -- Answer: the answer to words and bytes.
 -- Laws: that words and bytes have one answer.
--- Run: how a call ends, with its status, the bytes written and the bytes taken.
+-- Run: how a call ends that serves nothing, with its status, the bytes written and the bytes taken.
 -- Written: what a text leaves that is written with a status.
-pub mod Numbers
-pub mod Words
-pub mod Answers
-pub mod Emulated
-pub mod Check
-pub mod Discover
-pub mod Gates
-pub mod Convert
-pub mod Commands
+-- Serve: what serving says at its end.
+-- Serving: which words ask to serve, and how serving ends.
+-- Top: how a call ends on its words, its history and its world.
 pub mod Lines
+pub mod Histories
 pub mod Answer
 pub mod Laws
 pub mod Run
 pub mod Written
+pub mod Serve
+pub mod Serving
+pub mod Top

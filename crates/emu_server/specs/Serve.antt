@@ -9,8 +9,8 @@ use Rattle.schemas.specs.Rules.{first_of, last_of}
 use Rattle.served_history.specs.declared.fault.ServeFault.{ServeFault}
 use Rattle.served_history.specs.declared.fault.ServeFault.TheVariants as fault
 use Rattle.session_ends.specs.declared.served.Served.{Served}
-use Rattle.emu_server.specs.declared.status.Status.{Status}
-use Rattle.emu_server.specs.declared.status.Status.TheVariants as status
+use Rattle.commands.specs.declared.status.Status.{Status}
+use Rattle.commands.specs.declared.status.Status.TheVariants as status
 
 -- the status
 abbrev pub end_status : Result Served ServeFault → Status
@@ -30,17 +30,21 @@ end_status (Err fault.Memory) = status.Memory
 abbrev pub lowest : Dated → ℕ
 lowest h = floor_of (first_of h) (last_of h)
 
--- the line that is written with it; of want of memory nothing is said
+-- the line that is written with a refusal or a fault; of want of memory nothing is said
+abbrev pub fault_line : Dated → ServeFault → List ℕ
+fault_line h (fault.Emulated cause) = version_line (codes "emulated-version") (lowest h) (last_of h) cause
+fault_line h (fault.Least e cause) = version_line (codes "min-compatibility-version") (lowest h) e cause
+fault_line h (fault.Features place cause) = gate_line place cause
+fault_line h (fault.Runtime place cause) = config_line (config.At place cause)
+fault_line h fault.OnlyAllFalse = config_line config.OnlyAllFalse
+fault_line h (fault.NotAStore file at) = not_a_store_line file at
+fault_line h (fault.Undecodable key version minor) = unreadable_line key version minor
+fault_line h fault.Disk = codes "disk fault\n"
+fault_line h fault.Front = codes "front fault\n"
+fault_line h fault.Spent = codes "too many events\n"
+fault_line h fault.Memory = codes ""
+
+-- the line that is written at an end
 abbrev pub end_line : Dated → Result Served ServeFault → List ℕ
 end_line h (Ok served) = served_line served.requests served.revision
-end_line h (Err (fault.Emulated cause)) = version_line (codes "emulated-version") (lowest h) (last_of h) cause
-end_line h (Err (fault.Least e cause)) = version_line (codes "min-compatibility-version") (lowest h) e cause
-end_line h (Err (fault.Features place cause)) = gate_line place cause
-end_line h (Err (fault.Runtime place cause)) = config_line (config.At place cause)
-end_line h (Err fault.OnlyAllFalse) = config_line config.OnlyAllFalse
-end_line h (Err (fault.NotAStore file at)) = not_a_store_line file at
-end_line h (Err (fault.Undecodable key version minor)) = unreadable_line key version minor
-end_line h (Err fault.Disk) = codes "disk fault\n"
-end_line h (Err fault.Front) = codes "front fault\n"
-end_line h (Err fault.Spent) = codes "too many events\n"
-end_line h (Err fault.Memory) = codes ""
+end_line h (Err fault) = fault_line h fault

@@ -2,8 +2,8 @@
 use Rattle.std.specs.Prelude.{ℕ, ◌≡◌, ◌⊎◌, List}
 use Rattle.std.specs.declared.option.Option.{Option}
 use Rattle.std.specs.Io.KnownBytes.{Appends}
-use Rattle.emu_server.specs.declared.status.Status.{Status}
-use Rattle.emu_server.specs.declared.status.Status.TheVariants as status
+use Rattle.commands.specs.declared.status.Status.{Status}
+use Rattle.commands.specs.declared.status.Status.TheVariants as status
 use Rattle.outside.specs.Streams.{AppendsFront}
 
 -- the text was written whole and the status is the wanted one, or a front of it was written and the status is that of a

@@ -1,18 +1,16 @@
-//! The commands of `kube_emu`, from the bytes of a history to the bytes of an answer.
+//! The program `kube_emu`: from its words, the bytes of a history and its world to what it writes and leaves.
 #![tactic(auto)]
 
-mod answer;
-mod commands;
-mod emulated;
 mod law;
 mod refusals;
-mod run;
-mod status;
+mod serve;
+mod serving;
 mod taking;
-mod words;
+mod top;
+mod writing;
 
+pub use commands::Status;
 pub use disk::{FailList, Failed};
 pub use law::words_have_one_answer;
 pub use outside::{MemSink, MemSource, Sink, Source, StdSink, StdSource};
-pub use run::run_plain;
-pub use status::Status;
+pub use top::{run, run_plain};

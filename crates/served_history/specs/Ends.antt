@@ -1,10 +1,10 @@
 -- How serving a history ends, and what it leaves. The first refusal decides: the texts in their order, the store, the session.
-use Rattle.std.specs.Prelude.{◌≡◌, ◌⊎◌, ℕ, List, Result, Ok, Err}
+use Rattle.std.specs.Prelude.{◌≡◌, ◌⊎◌, ℕ, Result, Ok, Err}
 use Rattle.disk.specs.Beside.{Beside}
 use Rattle.disk.specs.Images.{Images, Pending}
 use Rattle.disk.specs.declared.file.File.{File}
 use Rattle.gate_flags.specs.Flags.{IsFeatureText, IsTextFault as IsFeatureFault}
-use Rattle.gate_flags.specs.declared.cause.GateCause.{GateCause}
+use Rattle.gate_flags.specs.declared.fault.GateCause.{GateCause}
 use Rattle.gate_flags.specs.declared.fault.GateFault.TheVariants.{At as AtGate}
 use Rattle.gate_spec.specs.Gates.{cutoff as gate_cutoff}
 use Rattle.plain_machine.specs.declared.machine.Machine.{Machine}

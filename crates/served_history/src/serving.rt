@@ -7,9 +7,11 @@ ghost use Rattle.world.specs.Fronts.{IsAboveMark, IsAtStart};
 
 use crate::fault::ServeFault;
 use crate::texts::Texts;
+use crate::views::views_of;
 use schemas::Accepted;
 use session_ends::Served;
 use std::alloc::Global;
+use store_session::serve_store;
 use world::Front;
 
 /// Serves the connections of a front as the release that the texts choose, by a binary of the history's last release, over the
@@ -26,5 +28,8 @@ pub fn serve_history<W: Front>(
     ensures faults { CountsFailure (W.faults world.old) (W.faults world.new) (IsErrOf result ServeFault.Disk) }
     ensures front { IsErrOf result ServeFault.Front → IsAboveMark (W.beside world.new) }
 {
-    todo!()
+    let views = views_of(alloc, accepted, texts)?;
+    let release = accepted.last();
+    let served = serve_store(alloc, views.view, views.back, release, world)?;
+    Ok(served)
 }

@@ -1,0 +1,19 @@
+//! The commands that read a history and print an answer: what each is to say of an accepted history.
+#![tactic(auto)]
+
+mod answer;
+mod check;
+mod convert;
+mod cut;
+mod discover;
+mod fold;
+mod gates;
+mod law;
+mod options;
+mod plain;
+mod status;
+
+pub use answer::Answer;
+pub use law::work_has_one_answer;
+pub use status::Status;
+pub use plain::{is_plain, work};

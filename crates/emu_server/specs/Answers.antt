@@ -1,8 +1,0 @@
--- Answers of the program.
-use Rattle.std.specs.Prelude.{ℕ, List, string_bytes}
-use Rattle.emu_server.specs.declared.answer.Answer.{Answer}
-use Rattle.emu_server.specs.declared.status.Status.{Status}
-
--- this holds of the answer's status and text
-abbrev pub Meets : (Status → List ℕ → Type 0) → Answer → Type 0
-Meets Holds answer = Holds answer.status (string_bytes answer.text)

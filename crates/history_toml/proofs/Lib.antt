@@ -1,0 +1,6 @@
+pub mod RowLemmas
+pub mod PathLemmas
+pub mod ReadLemmas
+pub mod EntryLemmas
+pub mod TreeLemmas
+pub mod TextLemmas
