@@ -1,0 +1,4 @@
+pub mod KindLemmas
+pub mod SettingLemmas
+pub mod ValueLemmas
+pub mod OneLemmas

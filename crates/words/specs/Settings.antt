@@ -1,9 +1,10 @@
 -- Words as settings: an option's name and its value, in one of two forms.
-use Rattle.std.specs.Prelude.{ℕ, ◌==◌, List, [], ◌∷◌, Bool, true, false, map}
+use Rattle.std.specs.Prelude.{ℕ, ◌==◌, List, [], ◌∷◌, Bool, false, map}
 use Rattle.std.specs.Prelude.{Some, None, option_map, if◌then◌else◌}
 use Rattle.std.specs.Borrow.{Bor}
 use Rattle.std.specs.List.{before_first, after_first, list_any}
 use Rattle.std.specs.declared.option.Option.{Option}
+use Rattle.words.specs.declared.settings.Given.{Given}
 
 -- the texts of the words
 abbrev pub texts_of : List (Bor (List ℕ)) → List (List ℕ)
@@ -13,6 +14,13 @@ texts_of words = map (λ w. w.now) words
 pub record Setting : Type 0 where
   pub name : List ℕ
   pub value : List ℕ
+
+-- settings as the program holds them
+abbrev pub setting_of : Given → Setting
+setting_of given = record { name = given.name.now; value = given.value.now }
+
+abbrev pub settings_in : List Given → List Setting
+settings_in given = map setting_of given
 
 abbrev pub is_equals : ℕ → Bool
 is_equals c = c == 61

@@ -1,6 +1,7 @@
 -- The table of commands and their options, and which values settings give to options.
-use Rattle.std.specs.Prelude.{ℕ, ◌≡◌, ◌≤◌, ◌^◌, ◌-◌, List, [], ◌∷◌, Bool, true, codes, decimal}
-use Rattle.std.specs.Prelude.{Some, None, if◌then◌else◌}
+use Rattle.std.specs.Prelude.{ℕ, ◌≡◌, ◌≤◌, ◌^◌, ◌-◌, List, [], ◌∷◌, Bool, true, map, codes, decimal}
+use Rattle.std.specs.Prelude.{Some, None, option_map, if◌then◌else◌}
+use Rattle.std.specs.Borrow.{Bor}
 use Rattle.std.specs.List.{AllByRecursion, filter_map, list_any, list_all}
 use Rattle.std.specs.Option.{option_to_list}
 use Rattle.std.specs.Str.{bytes_eq}
@@ -71,6 +72,9 @@ row_of (Replay flags store script) = row (codes "replay") (with_flags flags (
 
 -- ---- the values that settings give
 
+abbrev pub text_of : Option (Bor (List ℕ)) → Option (List ℕ)
+text_of = option_map (λ t. t.now)
+
 abbrev pub name_of : Choice → List ℕ
 name_of (may name value) = name
 name_of (must name value) = name
@@ -91,10 +95,15 @@ IsGiven settings (must name value) = values_of name settings ≡ value ∷ []
 IsGiven settings (number name low high n) =
     (values_of name settings ≡ decimal n ∷ []) × (low ≤ n) × (n ≤ high)
 
-abbrev pub is_named : List Choice → Setting → Bool
-is_named options setting = list_any (λ option. bytes_eq setting.name (name_of option)) options
+abbrev pub is_named : List (List ℕ) → Setting → Bool
+is_named names setting = list_any (λ name. bytes_eq setting.name name) names
 
 -- the settings give these options their values, each at most once, and no other option
 pub record Give (settings : List Setting) (options : List Choice) : Type 0 where
-  pub known : list_all (is_named options) settings ≡ true
+  pub known : list_all (is_named (map name_of options)) settings ≡ true
   pub given : AllByRecursion (IsGiven settings) options
+
+-- the settings give the options of a command with this name
+pub record Fits (name : List ℕ) (settings : List Setting) (c : Command) : Type 0 where
+  pub named : (row_of c).name ≡ name
+  pub give : Give settings (row_of c).options

@@ -4,7 +4,6 @@ ghost use Rattle.words.specs.Settings.{texts_of};
 
 /// Words are of one command at most.
 pub fn words_have_one_command(words: &[&str])
-    requires { HasOneCommand (texts_of words.now) }
     ensures { HasOneCommand (texts_of words.now) }
 {
     let _words = words;

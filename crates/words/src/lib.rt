@@ -2,9 +2,13 @@
 #![tactic(auto)]
 
 mod command;
+mod decimal;
 mod law;
 mod places;
 mod read;
+mod rows;
+mod settings;
+mod values;
 
 pub use command::{Command, FlagTexts, WordsFault};
 pub use law::words_have_one_command;

@@ -1,5 +1,5 @@
-ghost use Rattle.std.specs.Prelude.{IfOk};
-ghost use Rattle.words.specs.Commands.{IsPlaces};
+ghost use Rattle.std.specs.Prelude.{◌≡◌, IfOk};
+ghost use Rattle.words.specs.Commands.{IsPlaces, places_in};
 ghost use Rattle.words.specs.Settings.{texts_of};
 
 use crate::command::{Command, WordsFault};
@@ -33,31 +33,38 @@ impl Places {
     }
 }
 
+fn places_in(command: Command) -> Places
+    ensures { result ≡ places_in command }
+{
+    match command {
+        Command::Serve {
+            store,
+            port,
+            connections,
+            ..
+        } => Places {
+            store: Some(store),
+            port: Some(port),
+            connections,
+            script: None,
+        },
+        Command::Replay { store, script, .. } => Places {
+            store: Some(store),
+            port: None,
+            connections: 0,
+            script: Some(script),
+        },
+        _ => Places::nowhere(),
+    }
+}
+
 /// Where the command of the words works: nowhere, but for a server.
 pub fn places_of(alloc: Global, words: &[&str]) -> Result<Places, Memory>
     ensures { IfOk result (IsPlaces (texts_of words.now)) }
 {
     match read_words(alloc, words) {
-        Ok(
-            Command::Serve {
-                store,
-                port,
-                connections,
-                ..
-            },
-        ) => Ok(Places {
-            store: Some(store),
-            port: Some(port),
-            connections,
-            script: None,
-        }),
-        Ok(Command::Replay { store, script, .. }) => Ok(Places {
-            store: Some(store),
-            port: None,
-            connections: 0,
-            script: Some(script),
-        }),
-        Ok(_) | Err(WordsFault::Usage) => Ok(Places::nowhere()),
+        Ok(command) => Ok(places_in(command)),
+        Err(WordsFault::Usage) => Ok(Places::nowhere()),
         Err(WordsFault::Memory) => Err(Memory),
     }
 }

@@ -15,3 +15,4 @@ pub use front::Front;
 pub use law::{fronts_only_grow, last_replies_shut, lawful_events_are_in_turn};
 pub use mem_world::MemWorld;
 pub use sent::Sent;
+pub use tape::Tape;

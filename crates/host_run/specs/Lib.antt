@@ -1,0 +1,2 @@
+-- Numbers: the number of each end.
+pub mod Numbers

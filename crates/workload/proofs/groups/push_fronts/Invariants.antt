@@ -1,0 +1,10 @@
+use Rattle.std.proofs.Common.{◌≡◌, ◌++◌, take}
+use Rattle.workload.specs.Groups.{fronts}
+use Rattle.workload.specs.Parts.{AreOpen}
+use Rattle.workload.proofs.groups.push_fronts.Given as goal
+
+abbrev pub invariant-loop-c : goal.invariant-loop-c
+invariant-loop-c l = record {
+  ready : AreOpen l.script;
+  so_far : l.script ≡ l.initial.script ++ fronts 0 (take l.c l.group);
+}
