@@ -7,12 +7,10 @@ mod connection;
 mod fault;
 mod listener;
 mod outgoing;
-mod places;
 mod real;
 mod script;
 mod store;
 mod table;
 
 pub use fault::WorldFault;
-pub use places::Places;
 pub use real::RealWorld;

@@ -14,7 +14,6 @@ use crate::clients::Clients;
 use crate::fault::WorldFault;
 use crate::listener::Listener;
 use crate::outgoing::Outgoing;
-use crate::places::Places;
 use crate::script::read_script;
 use crate::store::Store;
 use basis::Memory;
@@ -24,6 +23,7 @@ use std::alloc::Global;
 use std::io;
 use std::net::Net;
 use std::rt::Files;
+use words::Places;
 use world::{Event, Front, Tape};
 
 /// A disk of files, and connections that a script or a listener brings. It tells nothing, and counts the machine's errors.

@@ -9,8 +9,9 @@ use crate::clients::Clients;
 use crate::server::{serve, serve_one};
 use disk::{Disk, File};
 use minor_version::Text;
-use real_world::{Places, RealWorld, WorldFault};
+use real_world::{RealWorld, WorldFault};
 use std::io::{self, ErrorKind};
+use words::Places;
 use world::Front;
 
 const STORE: &str = "store";

@@ -17,10 +17,10 @@ use Rattle.stored_state.specs.Laws.{HoldsWithin}
 use Rattle.world.specs.Fronts.{IsAtStart}
 
 pub takes_none_join : (a b d : Beside) → TakesNone a b → TakesNone b d → TakesNone a d
-takes_none_join a b d h k = record { opened = k.opened ∙ h.opened; taken = k.taken ∙ h.taken }
+takes_none_join a b d h k = record { opened = k.opened ∙ h.opened; taken = k.taken ∙ h.taken; coming = k.coming ∙ h.coming }
 
 pub takes_none : (a : Beside) → TakesNone a a
-takes_none a = record { opened = refl; taken = refl }
+takes_none a = record { opened = refl; taken = refl; coming = refl }
 
 -- an answer isn't a fault
 pub not_failed : {T E : Type 0} (x : T) (e : E) → IsErrOf {T = T} {E = E} (Ok x) e → ⊥

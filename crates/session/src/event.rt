@@ -3,6 +3,7 @@ ghost use Rattle.std.specs.Prelude.{◌≡◌, ◌≤◌, All, Contains, length,
 ghost use Rattle.disk.specs.Beside.{End};
 ghost use Rattle.session.specs.Calls.{Answers, CanServe, IsReady, Keeps, session_fault};
 ghost use Rattle.session.specs.Comings.{EventComesTo, NextComesTo};
+ghost use Rattle.session_ends.specs.Drawn.{HasDrawn};
 ghost use Rattle.session_ends.specs.Pieces.{AreFresh};
 ghost use Rattle.session_step.specs.Taken.{TakesNone, server_of};
 ghost use Rattle.session_turns.specs.Turns.{HasNoEnd};
@@ -80,6 +81,7 @@ pub(crate) fn serve_next<W: Front>(
     ensures told { W.tells → Answers W.clock W.may_leave W.beside (server_of service.old) (server_of service.new)
         world.old world.new (NextComesTo result (W.beside world.old).taken (W.beside world.new).taken
         mux.old mux.new) }
+    ensures drawn { W.tells → HasDrawn (length buffer.old) (W.beside world.old) (W.beside world.new) }
     ensures fresh { AreFresh (W.beside world.new).opened mux.new }
     ensures ready { ¬ IsErrOf result SessionFault.Disk
         → IsReady W.tells W.held W.pending W.beside service.new world.new }

@@ -1,6 +1,7 @@
 //! The loop over the events of a front.
 ghost use Rattle.std.specs.Prelude.{◌≡◌, true, IfOk, IsErrOf};
 ghost use Rattle.api_requests.specs.Finishing.{StandsOnDisk};
+ghost use Rattle.session_ends.specs.Drawn.{HasDrawn};
 ghost use Rattle.session_ends.specs.Ends.{Serves};
 ghost use Rattle.session_step.specs.Taken.{CountsFailure, server_of};
 ghost use Rattle.storage_version.specs.Kept.{AreKept};
@@ -34,6 +35,9 @@ pub fn session<W: Front>(
     // by then, or after one more.
     ensures serves { W.tells → Serves W.clock W.may_leave W.beside
         (server_of service.old) (server_of service.new) world.old world.new result }
+
+    // The events that were taken are the first of those that were to come.
+    ensures drawn { W.tells → HasDrawn 4096 (W.beside world.old) (W.beside world.new) }
 
     // The server is what it was, and its records are what is kept of those at the start.
     ensures machine { service.new.machine ≡ service.old.machine }

@@ -6,5 +6,5 @@ mod law;
 mod served;
 
 pub use fault::SessionFault;
-pub use law::{courses_make_sessions, pieces_have_their_turns};
+pub use law::{courses_make_sessions, ended_fronts_are_taken, pieces_have_their_turns};
 pub use served::Served;

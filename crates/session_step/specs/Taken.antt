@@ -30,6 +30,7 @@ pub record IsTurnOf (c : ℕ) (item : Item) (b : Beside) (t : Turn) : Type 0 whe
 pub record TakesNone (old new : Beside) : Type 0 where
   pub opened : new.opened ≡ old.opened
   pub taken : new.taken ≡ old.taken
+  pub coming : new.coming ≡ old.coming
 
 -- the count of faults never falls, rises where the call failed by it, and else stays
 pub record CountsFailure (old new : ℕ) (failed : Type 0) : Type 0 where

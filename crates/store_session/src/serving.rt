@@ -9,6 +9,7 @@ ghost use Rattle.object_store.specs.Records.{RecoversTo};
 ghost use Rattle.object_store.specs.Stores.{HasEntries, KeepsRecords};
 ghost use Rattle.release_view.specs.Later.{AreOfOneHistory};
 ghost use Rattle.schemas.specs.Dated.{Dated};
+ghost use Rattle.session_ends.specs.Drawn.{HasDrawn};
 ghost use Rattle.session_step.specs.Taken.{CountsFailure, server_of};
 ghost use Rattle.store_session.specs.Ends.{IsStoreEnd};
 ghost use Rattle.store_session.specs.Opened.{HoldSame, IsOpening};
@@ -91,6 +92,7 @@ fn served<W: Front>(
     requires stands { StandsOnDisk W.tells (W.held world.old) (W.pending world.old) service.old }
     ensures serves { W.tells → ServesAs W.clock W.may_leave W.beside
         (server_of service.old) (server_of service.new) world.old world.new result }
+    ensures drawn { W.tells → HasDrawn 4096 (W.beside world.old) (W.beside world.new) }
     ensures revision { IfOk result (λ served. served.revision ≡ service.new.state.revision) }
     ensures counts { CountsFailure (W.faults world.old) (W.faults world.new) (IsErrOf result StoreFault.Disk) }
     ensures front { IsErrOf result StoreFault.Front → IsAboveMark (W.beside world.new) }
@@ -118,6 +120,7 @@ pub fn serve_store<W: Front>(
     requires start { IsAtStart (W.beside world.old) }
     ensures ends { W.tells → IsStoreEnd W.clock W.may_leave W.held W.pending W.beside
         (record { view = view; release = release; back = back.minor }) back world.old world.new result }
+    ensures drawn { W.tells → HasDrawn 4096 (W.beside world.old) (W.beside world.new) }
     ensures faults { CountsFailure (W.faults world.old) (W.faults world.new) (IsErrOf result StoreFault.Disk) }
     ensures front { IsErrOf result StoreFault.Front → IsAboveMark (W.beside world.new) }
 {

@@ -1,6 +1,4 @@
 //! The history of which releases are viewed: the product's example with resources in the core group.
-ghost use Rattle.std.specs.Prelude.{◌≡◌, IfOk};
-
 use basis::Memory;
 use example::WIDGETS;
 use history_reader::read_history;

@@ -39,16 +39,16 @@ gate_values-requires c =
 pub returns-in_ok-text-in-Ok-gate_values : goal.returns-in_ok-text-in-Ok-gate_values
 returns-in_ok-text-in-Ok-gate_values c =
     let same : c.items-entries.result.now ≡ c.args.accepted.now.gates = c.items-entries.ensures ∙ ap (λ (h : Dated). h.gates) (c.behind-accepted.view_is ∙ c.history.ensures.same) in
-    let same_text : c.as_bytes.result.now ≡ unwrap_or (text_of c.args.features.entry) [] = c.as_bytes.ensures.value ∙ c.text_or_empty-features.ensures in
+    let same_text : c.as_bytes.result.now ≡ unwrap_or (text_of c.args.features) [] = c.as_bytes.ensures.value ∙ c.text_or_empty-features.ensures in
     let written : string_bytes c.done.result.text ≡ gate_lines c.in-Ok-gate_values.values.rows =
     first_of (cc, search rules, grind arith) in
-    listed (text_of c.args.emulated.entry) (text_of c.args.features.entry) c.args.accepted.now c.in-Ok.e c.items-entries.result.now c.as_bytes.result.now same same_text c.in-Ok.ensures.ok
+    listed (text_of c.args.emulated) (text_of c.args.features) c.args.accepted.now c.in-Ok.e c.items-entries.result.now c.as_bytes.result.now same same_text c.in-Ok.ensures.ok
     c.in-Ok-gate_values.values c.done.result.status (string_bytes c.done.result.text) c.in-Ok-gate_values.ensures.accepted c.in-Ok-gate_values.ensures.values c.done.ensures.status written
 
 pub returns-in_ok-text-in-Err-At : goal.returns-in_ok-text-in-Err-At
 returns-in_ok-text-in-Err-At c =
     let same : c.items-entries.result.now ≡ c.args.accepted.now.gates = c.items-entries.ensures ∙ ap (λ (h : Dated). h.gates) (c.behind-accepted.view_is ∙ c.history.ensures.same) in
-    let same_text : c.as_bytes.result.now ≡ unwrap_or (text_of c.args.features.entry) [] = c.as_bytes.ensures.value ∙ c.text_or_empty-features.ensures in
+    let same_text : c.as_bytes.result.now ≡ unwrap_or (text_of c.args.features) [] = c.as_bytes.ensures.value ∙ c.text_or_empty-features.ensures in
     let fault : IsTextFault c.items-entries.result.now c.in-Ok.e c.as_bytes.result.now (At c.in-Err-At.place c.in-Err-At.cause) = rw c.in-Err-At.field-0-is at c.in-Err-At.ensures.fault in
-    refused (text_of c.args.emulated.entry) (text_of c.args.features.entry) c.args.accepted.now c.in-Ok.e c.items-entries.result.now c.as_bytes.result.now same same_text c.in-Ok.ensures.ok
+    refused (text_of c.args.emulated) (text_of c.args.features) c.args.accepted.now c.in-Ok.e c.items-entries.result.now c.as_bytes.result.now same same_text c.in-Ok.ensures.ok
     c.in-Err-At.place c.in-Err-At.cause c.refused_option.result.status (string_bytes c.refused_option.result.text) fault c.refused_option.ensures.status (c.refused_option.ensures.text ∙ c.in_ok-text-in-Err-At.ensures)

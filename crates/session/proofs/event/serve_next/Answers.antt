@@ -7,6 +7,7 @@ use Rattle.session.proofs.ServingLemmas.{keeps_as, keeps_join, keeps_on, keeps_s
 use Rattle.session.proofs.event.serve_next.Goals as goal
 use Rattle.session.specs.Calls.{Answers}
 use Rattle.session.specs.Comings.{EventComesTo, NextComesTo}
+use Rattle.session_ends.proofs.DrawnLemmas.{drawn_first, drawn_join, drawn_none}
 use Rattle.session_ends.proofs.PieceLemmas.{fresh_more}
 use Rattle.session_ends.specs.Pieces.{AreFresh}
 use Rattle.session_ends.specs.declared.fault.SessionFault.{SessionFault}
@@ -36,6 +37,16 @@ returns-in-End-clause-told g c told =
     c.next.ensures.clock c.next.ensures.sends.sends (c.next.ensures.same told).kept c.args.mux.now
     (takes_end (d.beside w) (d.beside c.next.new.self) (c.requires.going told) one)
 
+pub returns-in-Err-clause-drawn : goal.returns-in-Err-clause-drawn
+returns-in-Err-clause-drawn g c told =
+    let d = g.W.Disk in
+    drawn_none (length c.args.buffer.now) (d.beside c.args.world.now) (d.beside c.next.new.self) c.in-Err.ensures.failed.taken c.in-Err.ensures.failed.coming
+
+pub returns-in-End-clause-drawn : goal.returns-in-End-clause-drawn
+returns-in-End-clause-drawn g c told =
+    let d = g.W.Disk in
+    drawn_first (length c.args.buffer.now) (front_event c.in-Ok.event c.next.new.into) (d.beside c.args.world.now) (d.beside c.next.new.self) (c.in-Ok.ensures.first told)
+
 pub returns-in-Ok-serve_event : goal.returns-in-Ok-serve_event
 returns-in-Ok-serve_event g c =
     let d = g.W.Disk in
@@ -62,6 +73,10 @@ returns-in-Ok-serve_event g c =
           c.next.ensures.clock c.next.ensures.sends.sends (c.next.ensures.same told).kept r (server_of after) to event had held
           (takes_event (d.beside w) (d.beside mid) (d.beside to) event (c.requires.going told) other (c.in-Ok.ensures.one told) k.events.taken)
           (subst (λ (n : ℕ). Answers d.clock d.may_leave d.beside (server_of s) (server_of after) mid to (EventComesTo r event n had held)) (ap length (sym k.events.taken)) (k.told told)));
+      drawn = λ told.
+          let room = length c.args.buffer.now in
+          drawn_join room (d.beside w) (d.beside mid) (d.beside to) (drawn_first room event (d.beside w) (d.beside mid) (c.in-Ok.ensures.first told))
+          (drawn_none room (d.beside mid) (d.beside to) k.events.taken k.events.coming);
       fresh = subst (λ (o : ℕ). AreFresh o held) (sym k.events.opened) (k.fresh (fresh_more (d.beside w).opened (d.beside mid).opened had later c.requires.fresh));
       ready = λ fine. k.ready unfailed;
       front = λ failed. absurd (not_failed (Some answered) fault.Front failed);
@@ -96,6 +111,10 @@ returns-in-Err-serve_event g c =
           (takes_event (d.beside w) (d.beside mid) (d.beside to) event (c.requires.going told) other (c.in-Ok.ensures.one told) k.events.taken)
           (subst (λ (n : ℕ). Answers d.clock d.may_leave d.beside (server_of s) (server_of after) mid to (EventComesTo r event n had held)) (ap length (sym k.events.taken)) (k.told told))) in
           subst (λ (q : SessionFault). Answers d.clock d.may_leave d.beside (server_of s) (server_of after) w to (NextComesTo (Err q) (d.beside w).taken (d.beside to).taken had held)) (sym c.fault_of.ensures) served;
+      drawn = λ told.
+          let room = length c.args.buffer.now in
+          drawn_join room (d.beside w) (d.beside mid) (d.beside to) (drawn_first room event (d.beside w) (d.beside mid) (c.in-Ok.ensures.first told))
+          (drawn_none room (d.beside mid) (d.beside to) k.events.taken k.events.coming);
       fresh = subst (λ (o : ℕ). AreFresh o held) (sym k.events.opened) (k.fresh (fresh_more (d.beside w).opened (d.beside mid).opened had later c.requires.fresh));
       ready = λ fine. k.ready (λ f. fine (disk_back r e c.fault_of.result is c.fault_of.ensures f));
       front = λ failed. absurd (not_front e c.fault_of.result c.fault_of.ensures failed);
