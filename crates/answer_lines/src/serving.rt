@@ -46,12 +46,7 @@ fn key_of(
     format!(in alloc; "{group}/{resource} {namespace}/{name}")
 }
 
-fn unread(
-    alloc: Global,
-    key: &str,
-    version: &str,
-    minor: &str,
-) -> Result<String, AllocError>
+fn unread(alloc: Global, key: &str, version: &str, minor: &str) -> Result<String, AllocError>
     ensures { IfOk result (λ s. string_bytes s ≡ codes "store: " ++ (key.now ++ (codes " in "
         ++ (version.now ++ (codes ": not readable in " ++ (minor.now ++ codes "\n")))))) }
 {
@@ -59,12 +54,7 @@ fn unread(
 }
 
 /// Which record isn't readable: its key, the version that its body tells, and the release that doesn't read it.
-pub fn unreadable(
-    alloc: Global,
-    key: &Key,
-    version: &str,
-    minor: Minor,
-) -> Result<String, Memory>
+pub fn unreadable(alloc: Global, key: &Key, version: &str, minor: Minor) -> Result<String, Memory>
     ensures { IfOk result (λ s. string_bytes s ≡ unreadable_line key.now version.now minor) }
 {
     let of_key = key_of(

@@ -15,5 +15,5 @@ mod status;
 
 pub use answer::Answer;
 pub use law::work_has_one_answer;
-pub use status::Status;
 pub use plain::{is_plain, work};
+pub use status::Status;

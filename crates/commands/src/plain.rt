@@ -45,7 +45,13 @@ pub fn work(alloc: Global, command: &Command, accepted: &Accepted) -> Result<Ans
             emulated,
             object,
             to,
-        } => convert::answer(alloc, given(emulated), object.as_str(), to.as_str(), accepted),
+        } => convert::answer(
+            alloc,
+            given(emulated),
+            object.as_str(),
+            to.as_str(),
+            accepted,
+        ),
         Command::Twin { .. } | Command::Serve { .. } | Command::Replay { .. } => unreachable!(),
     }
 }

@@ -1,7 +1,7 @@
 -- From what was taken of the source to the bytes that it held, where a history is served.
-use Rattle.std.proofs.Common.{◌≡◌, ℕ, ◌≤◌, inl, inr, List, ◌++◌, length, Option, Some, None, ap, sym, ◌∙◌, subst}
+use Rattle.std.proofs.Common.{◌≡◌, ℕ, ◌≤◌, inl, inr, List, ◌++◌, length, Option, Some, None}
 use Rattle.std.specs.Io.KnownBytes.{Consumes, IsAtEnd}
-use Rattle.std.proofs.lemmas.List.{append-nil}
+use Rattle.std.specs.Prelude.{IfNone}
 use Rattle.commands.specs.declared.status.Status.{Status}
 use Rattle.disk.specs.Beside.{Beside}
 use Rattle.disk.specs.Images.{Images, Pending}
@@ -9,7 +9,7 @@ use Rattle.disk.specs.declared.file.File.{File}
 use Rattle.served_history.specs.Releases.{FlagTexts}
 use Rattle.emu_server.specs.Serving.{IsNotServed, IsServedFrom}
 use Rattle.emu_server.proofs.HistoryLemmas.{accepted_up, refusal_up}
-use Rattle.emu_server.proofs.TopLemmas.{held}
+use Rattle.emu_server.proofs.TopLemmas.{held, of_held}
 
 not_served_up : (v rest : List ℕ) (s : Status) (old new : Option (List ℕ)) → (length v ≤ 1048576 → v ≡ v ++ rest) → IsNotServed v s old new → IsNotServed (v ++ rest) s old new
 not_served_up v rest s old new whole (inl h) = inl h
@@ -24,8 +24,10 @@ module _ {W : Type 0} (tells : Type 0) (clock : W → ℕ) (may_leave : W → �
   served_up v rest whole (inr h) = inr (h.0, accepted_up v rest h.0 whole h.1, h.2)
 
   pub served_held : (a b : Option (List ℕ)) (v : List ℕ) → Consumes a b v → (length v ≤ 1048576 → IsAtEnd b) → Served v → Served (held a v)
-  unfolding held
-  served_held None b v taken end h = h
-  served_held (Some xs) None v taken end h = absurd taken
-  served_held (Some xs) (Some ys) v taken end h =
-      subst Served (sym taken) (served_up v ys (λ short. sym (ap (λ rest. v ++ rest) (end short) ∙ append-nil v)) h)
+  served_held a b v taken end h = of_held Served a b v taken end (λ rest whole. served_up v rest whole) h
+
+-- ---- the texts of a server
+
+pub none_weaker : {A : Type 0} {P Q : Type 0} (r : Option A) → (P → Q) → IfNone r P → IfNone r Q
+none_weaker None f h = f h
+none_weaker (Some x) f h = tt

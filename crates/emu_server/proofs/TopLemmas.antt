@@ -33,14 +33,19 @@ answer_up : (c : Command) (v rest : List ℕ) (s : Status) (text : List ℕ) →
 answer_up c v rest s text whole (inl h) = inl (h.0, refusal_up v rest text whole h.1)
 answer_up c v rest s text whole (inr h) = inr (record { history = h.history; means = accepted_up v rest h.history whole h.means; work = h.work })
 
-pub answer_held : (c : Command) (a b : Option (List ℕ)) (v : List ℕ) (s : Status) (text : List ℕ) → Consumes a b v
-    → (length v ≤ 1048576 → IsAtEnd b) → IsAnswerTo c v s text → IsAnswerTo c (held a v) s text
+-- what holds of the bytes that were taken, and of more bytes if there are too many, holds of those that the source held
+pub of_held : (P : List ℕ → Type 0) (a b : Option (List ℕ)) (v : List ℕ) → Consumes a b v → (length v ≤ 1048576 → IsAtEnd b)
+    → ((rest : List ℕ) → (length v ≤ 1048576 → v ≡ v ++ rest) → P v → P (v ++ rest)) → P v → P (held a v)
 unfolding held
-answer_held c None b v s text taken end h = h
-answer_held c (Some xs) None v s text taken end h = absurd taken
-answer_held c (Some xs) (Some ys) v s text taken end h =
-    subst (λ bytes. IsAnswerTo c bytes s text) (sym taken)
-    (answer_up c v ys s text (λ short. sym (ap (λ rest. v ++ rest) (end short) ∙ append-nil v)) h)
+of_held P None b v taken end up h = h
+of_held P (Some xs) None v taken end up h = absurd taken
+of_held P (Some xs) (Some ys) v taken end up h =
+    subst P (sym taken) (up ys (λ short. sym (ap (λ rest. v ++ rest) (end short) ∙ append-nil v)) h)
+
+answer_held : (c : Command) (a b : Option (List ℕ)) (v : List ℕ) (s : Status) (text : List ℕ) → Consumes a b v
+    → (length v ≤ 1048576 → IsAtEnd b) → IsAnswerTo c v s text → IsAnswerTo c (held a v) s text
+answer_held c a b v s text taken end h =
+    of_held (λ bytes. IsAnswerTo c bytes s text) a b v taken end (λ rest whole. answer_up c v rest s text whole) h
 
 -- ---- statuses
 

@@ -4,7 +4,7 @@ ghost use Rattle.std.specs.Io.KnownBytes.{Keeps, IsAtEnd};
 ghost use Rattle.basis.specs.Counts.{Rose};
 ghost use Rattle.emu_server.specs.Answer.{IsCommandLine};
 ghost use Rattle.emu_server.specs.Run.{IsEnd, IsPlainEnd, TakesAtMost};
-ghost use Rattle.emu_server.specs.Serving.{AsksToServe, texts_given};
+ghost use Rattle.emu_server.specs.Serving.{AsksToServe, ServesWith, texts_given};
 ghost use Rattle.emu_server.specs.Top.{IsRun, IsServeRun};
 ghost use Rattle.commands.specs.Work.{IsPlain};
 ghost use Rattle.served_history.specs.Releases.{FlagTexts as TheTexts};
@@ -116,6 +116,24 @@ pub fn run_plain<S: Source, K: Sink>(
     }
 }
 
+/// The texts that choose what the command serves, if it serves.
+fn flags_of(command: Command) -> Option<FlagTexts>
+    ensures some { IfSome result (λ flags. ServesWith command (texts_given flags)) }
+    ensures none { IfNone result ((t : TheTexts) → ¬ ServesWith command t) }
+{
+    match command {
+        Command::Serve { flags, .. } => Some(flags),
+        Command::Replay { flags, .. } => Some(flags),
+        Command::Check
+        | Command::Fold
+        | Command::Cut { .. }
+        | Command::Discover { .. }
+        | Command::Gates { .. }
+        | Command::Convert { .. }
+        | Command::Twin { .. } => None,
+    }
+}
+
 /// The texts that choose what is served, if the words ask to serve.
 fn served_texts(alloc: Global, words: &[&str]) -> Result<Option<FlagTexts>, Memory>
     ensures some { IfOk result (λ o. IfSome o (λ flags. AsksToServe (texts_of words.now) (texts_given flags))) }
@@ -123,9 +141,8 @@ fn served_texts(alloc: Global, words: &[&str]) -> Result<Option<FlagTexts>, Memo
 {
     words_have_one_command(words);
     match read_words(alloc, words) {
-        Ok(Command::Serve { flags, .. }) => Ok(Some(flags)),
-        Ok(Command::Replay { flags, .. }) => Ok(Some(flags)),
-        Ok(_) | Err(WordsFault::Usage) => Ok(None),
+        Ok(command) => Ok(flags_of(command)),
+        Err(WordsFault::Usage) => Ok(None),
         Err(WordsFault::Memory) => Err(Memory),
     }
 }

@@ -1,2 +1,2 @@
--- Numbers: the number of each end.
-pub mod Numbers
+-- Endings: how the process ends, and with which status.
+pub mod Endings

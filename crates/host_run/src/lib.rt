@@ -1,9 +1,13 @@
-//! The program on its host: the words of the process, standard input and standard output, and the world that the words name.
+//! The program on its host: the words of the process, its standard streams, and the world at the places that the words
+//! name.
 #![tactic(auto)]
 
-mod end;
+ghost use Rattle.std.specs.Prelude.{◌≡◌};
+ghost use Rattle.host_run.specs.Endings.{ending_without_world};
 
-pub use end::End;
+mod ending;
+
+pub use ending::Ending;
 
 use emu_server::{Status, StdSink, StdSource};
 use real_world::{RealWorld, WorldFault};
@@ -20,59 +24,44 @@ fn borrowed(alloc: Global, words: &[String]) -> Result<Vec<&str>, AllocError> {
     Ok(texts)
 }
 
-/// Says why there is no world. Where that can't be written either, the status says it.
-fn no_world(rt: &HostRuntime, fault: WorldFault) -> End {
-    match fault {
-        WorldFault::BadLine { number } => {
-            let _ = println!(rt; "script: line {number}");
-            End::BadScript
-        }
-        WorldFault::Failed => {
-            let _ = println!(rt; "world fault");
-            End::NoWorld
-        }
-        WorldFault::Memory => End::Ran(Status::Memory),
+// Without a world there is nothing to run: a line tells why. Where it can't be written, the status tells it all the same.
+fn end_without_world(rt: &impl Print, fault: WorldFault) -> Ending
+    ensures { result ≡ ending_without_world fault }
+{
+    if fault != WorldFault::Memory {
+        let _ = println!(rt; "{fault}");
     }
+    Ending::without_world(fault)
 }
 
-/// Does what the words say, on the standard streams and on the world at the places that the words name.
-fn run_words(rt: &HostRuntime, alloc: Global, words: &[&str]) -> End {
+fn run_words(rt: &HostRuntime, words: &[&str]) -> Ending {
+    let alloc = rt.alloc();
     let Ok(places) = places_of(alloc, words) else {
-        return End::Ran(Status::Memory);
+        return Ending::Ran(Status::Memory);
+    };
+    let mut world = match RealWorld::from(rt, alloc, &places) {
+        Ok(world) => world,
+        Err(fault) => return end_without_world(rt, fault),
     };
     let mut history = StdSource::new(rt);
     let mut out = StdSink::new(rt);
-    match RealWorld::from(rt, alloc, &places) {
-        Ok(mut world) => End::Ran(emu_server::run(
-            alloc,
-            words,
-            &mut history,
-            &mut out,
-            &mut world,
-        )),
-        Err(fault) => no_world(rt, fault),
-    }
+    Ending::Ran(emu_server::run(alloc, words, &mut history, &mut out, &mut world))
 }
 
-/// Runs the program on the words of the process.
-pub fn run(rt: &HostRuntime) -> End {
+/// Runs the program on the words of the process, on its standard streams, and in the world at the places of the words.
+pub fn run(rt: &HostRuntime) -> Ending {
     let alloc = rt.alloc();
     let words = match env::args(rt) {
         Ok(words) => words,
-        Err(error) => {
-            return if error.kind() == ErrorKind::InvalidData {
-                // Words that aren't UTF-8 are of no command, as no words are.
-                run_words(rt, alloc, &[])
-            } else {
-                End::Ran(Status::Memory)
-            };
-        }
+        // Words that aren't UTF-8 are of no command, as no words are.
+        Err(error) if error.kind() == ErrorKind::InvalidData => return run_words(rt, &[]),
+        Err(_) => return Ending::Ran(Status::Memory),
     };
     let Ok(words) = words.skip(1).collect::<Vec<String>>(alloc) else {
-        return End::Ran(Status::Memory);
+        return Ending::Ran(Status::Memory);
     };
-    let Ok(texts) = borrowed(alloc, words.as_slice()) else {
-        return End::Ran(Status::Memory);
-    };
-    run_words(rt, alloc, texts.as_slice())
+    match borrowed(alloc, words.as_slice()) {
+        Ok(texts) => run_words(rt, texts.as_slice()),
+        Err(_) => Ending::Ran(Status::Memory),
+    }
 }

@@ -1,5 +1,6 @@
 //! The listener on loopback, which serves many connections at once.
-ghost use Rattle.std.specs.Prelude.{◌≡◌, ◌≤◌, ◌<◌, ◌+◌, length, IfOk, IfErr, IfSome, IfNone, OnErr};
+ghost use Rattle.std.specs.Prelude.{◌≡◌, ◌≤◌, ◌<◌, ◌+◌, ◌^◌, length, IfOk, IfErr, IfSome, IfNone, OnErr};
+ghost use Rattle.std.specs.Bool.{OnTrue};
 ghost use Rattle.world.specs.Fronts.{IsNumbered};
 ghost use Rattle.real_world.specs.Faults.{IsFaultOfSome};
 
@@ -100,13 +101,20 @@ impl Listener {
         if let Some(event) = self.table.take(into) {
             return Ok(Some(event));
         }
-        if self.socket.is_none() && self.table.is_empty() {
+        if self.table.opened() >= self.limit && self.table.is_empty() {
             return Ok(Some(Event::End));
         }
-        if self.table.is_idle(outgoing) {
+        if !self.may_accept() && self.table.is_idle(outgoing) {
             self.wait()?;
         }
         Ok(None)
+    }
+
+    // Whether a connection may wait that is to be taken now.
+    fn may_accept(&self) -> bool
+        ensures { OnTrue result (self.now.table.opened + 1 < 2 ^ 32) }
+    {
+        self.is_ready && !self.table.is_full() && self.table.opened() < self.limit
     }
 
     // Takes a connection that waits, where one more may be open and one more is to be taken.
@@ -116,7 +124,7 @@ impl Listener {
         ensures none { IfOk result (λ o. IfNone o (self.new.table.opened ≡ self.old.table.opened)) }
         ensures failed { OnErr result (self.new.table.opened ≡ self.old.table.opened) }
     {
-        if !self.is_ready || self.table.is_full() || self.table.opened() >= self.limit {
+        if !self.may_accept() {
             return Ok(None);
         }
         let Some(socket) = &self.socket else {

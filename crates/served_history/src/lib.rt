@@ -13,3 +13,4 @@ pub use release_choice::VersionFault;
 pub use serving::serve_history;
 pub use session_ends::Served;
 pub use texts::Texts;
+pub use views::{Views, bytes_of, views_of};

@@ -46,7 +46,7 @@ fn releases_of(accepted: &Accepted, texts: Texts<'_>) -> Result<Releases, ServeF
 }
 
 /// The text's bytes, none where no text is given.
-fn bytes_of<'a>(text: Option<&'a str>) -> &'a [u8]
+pub fn bytes_of<'a>(text: Option<&'a str>) -> &'a [u8]
     ensures { result.now ≡ given (text_of text.entry) }
 {
     match text {
@@ -56,17 +56,17 @@ fn bytes_of<'a>(text: Option<&'a str>) -> &'a [u8]
 }
 
 /// The views that a server is made of.
-#[derive(Drop)]
-pub(crate) struct Views {
+#[derive(Debug, Drop)]
+pub struct Views {
     /// Of the release that is emulated.
-    pub(crate) view: View,
+    pub view: View,
     /// Of the earliest release that may open the store.
-    pub(crate) back: View,
+    pub back: View,
 }
 
 /// The views of the releases that the texts choose: that of the emulated one as the texts make it, that of the earlier one as
 /// it is by default.
-pub(crate) fn views_of(
+pub fn views_of(
     alloc: Global,
     accepted: &Accepted,
     texts: Texts<'_>,
@@ -74,6 +74,10 @@ pub(crate) fn views_of(
     ensures server { IfOk result (λ views. IsFor accepted.now (flag_texts texts.entry)
         (record { view = views.view; release = last_of accepted.now; back = views.back.minor }) views.back) }
     ensures one { IfOk result (λ views. AreOfOneHistory accepted.now views.back views.view) }
+    ensures emulable { IfOk result
+        (λ views. IsEmulable (first_of accepted.now) (last_of accepted.now) views.view.minor) }
+    ensures minimum { IfOk result
+        (λ views. IsMinimum (first_of accepted.now) (last_of accepted.now) views.view.minor views.back.minor) }
     ensures refused { IfErr result (IsTextsFault accepted.now (flag_texts texts.entry)) }
 {
     let releases = releases_of(accepted, texts)?;

@@ -1,12 +1,13 @@
-use Rattle.std.proofs.Common.{◌≤◌, ℕ, List, subst, arith}
+use Rattle.std.proofs.Common.{◌≤◌, ℕ, List, sym, subst, arith}
 use Rattle.std.proofs.lemmas.Result.{err_from_is_err_and}
+use Rattle.minor_version.specs.Ranges.{IsEmulable, IsMinimum}
 use Rattle.flagged_view.specs.Flags.{IsFlagsFault}
 use Rattle.gate_flags.specs.Flags.{IsFeatureText}
 use Rattle.gate_spec.specs.Gates.{cutoff as gate_cutoff}
 use Rattle.lifecycle.specs.Tables.{cutoff}
 use Rattle.release_view.specs.Views.{IsViewByTexts}
 use Rattle.runtime_config.specs.Config.{IsRuntimeText}
-use Rattle.schemas.specs.Rules.{last_of}
+use Rattle.schemas.specs.Rules.{first_of, last_of}
 use Rattle.served_history.proofs.ServerLemmas.{flags_refused, is_for}
 use Rattle.served_history.specs.Releases.{flag_texts, given}
 use Rattle.served_history.proofs.views.views_of.Goals as goal
@@ -36,3 +37,14 @@ returns-clause-server c =
     let within : e ≤ last_of h = r.ensures.emulable.1 in
     let minimum : r.releases.least ≤ e = r.ensures.minimum.1 in
     is_for h o e r.releases.least r.ensures.releases c.in_ok-view.view c.in_ok-back.back within (omega arith) features runtime viewed c.in_ok-back.ensures
+
+pub returns-clause-emulable : goal.returns-clause-emulable
+returns-clause-emulable c =
+    let h = c.args.accepted.now in
+    subst (λ (k : ℕ). IsEmulable (first_of h) (last_of h) k) (sym c.in_ok-view.ensures.view.viewed.of_minor) c.in_ok-releases.ensures.emulable
+
+pub returns-clause-minimum : goal.returns-clause-minimum
+returns-clause-minimum c =
+    let h = c.args.accepted.now in
+    let by_view = subst (λ (k : ℕ). IsMinimum (first_of h) (last_of h) k c.in_ok-releases.releases.least) (sym c.in_ok-view.ensures.view.viewed.of_minor) c.in_ok-releases.ensures.minimum in
+    subst (λ (k : ℕ). IsMinimum (first_of h) (last_of h) c.in_ok-view.view.minor k) (sym c.in_ok-back.ensures.viewed.of_minor) by_view
