@@ -7,9 +7,8 @@ ghost use Rattle.host_run.specs.Endings.{ending_without_world};
 
 mod ending;
 
-pub use ending::Ending;
-
 use emu_server::{Status, StdSink, StdSource};
+pub use ending::Ending;
 use real_world::{RealWorld, WorldFault};
 use std::alloc::{AllocError, Global};
 use std::env;

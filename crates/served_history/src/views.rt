@@ -66,11 +66,7 @@ pub struct Views {
 
 /// The views of the releases that the texts choose: that of the emulated one as the texts make it, that of the earlier one as
 /// it is by default.
-pub fn views_of(
-    alloc: Global,
-    accepted: &Accepted,
-    texts: Texts<'_>,
-) -> Result<Views, ServeFault>
+pub fn views_of(alloc: Global, accepted: &Accepted, texts: Texts<'_>) -> Result<Views, ServeFault>
     ensures server { IfOk result (λ views. IsFor accepted.now (flag_texts texts.entry)
         (record { view = views.view; release = last_of accepted.now; back = views.back.minor }) views.back) }
     ensures one { IfOk result (λ views. AreOfOneHistory accepted.now views.back views.view) }

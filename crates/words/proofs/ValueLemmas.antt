@@ -1,12 +1,12 @@
 -- The values that settings give to options, one setting after the other.
-use Rattle.std.proofs.Common.{◌≡◌, ◌≢◌, ℕ, ◌+◌, ◌<◌, ◌&&◌, ◌||◌, true, false, List, [], ◌∷◌, ◌++◌, length, get_or, take, drop, Option, Some, None, is_some, Bor, refl, sym, ◌∙◌, ap, ap₂, append-nil}
+use Rattle.std.proofs.Common.{◌≡◌, ◌≢◌, ℕ, ◌+◌, ◌<◌, ◌&&◌, ◌||◌, true, false, List, [], ◌∷◌, ◌++◌, length, get_or, take, drop, Option, Some, None, IfSome, IfNone, is_some, Bor, refl, sym, ◌∙◌, ap, ap₂, append-nil}
 use Rattle.std.proofs.lemmas.List.{take-append-drop, take_more, map-append}
 use Rattle.std.proofs.lemmas.List.Elements.{filter_map-append}
 use Rattle.std.specs.List.{list_any, list_all}
 use Rattle.std.specs.Option.{option_to_list}
 use Rattle.std.specs.Str.{bytes_eq}
 use Rattle.words.specs.Settings.{Setting, texts_of, setting_of, settings_in}
-use Rattle.words.specs.Table.{is_named, text_of, value_for, values_of}
+use Rattle.words.specs.Table.{at_most_one, is_named, text_of, value_for, values_of}
 use Rattle.words.specs.declared.settings.Given.{Given}
 
 any_is : (names : List (Bor (List ℕ))) (s : Setting) → list_any (λ name. bytes_eq s.name name.now) names ≡ is_named (texts_of names) s
@@ -55,3 +55,11 @@ module _ (name : List ℕ) (given : List Given) (i : ℕ) (d : Given) (found her
       by None e y k = cc
       by (Some u) e None k = cc
       by (Some u) e (Some y) k = cc
+
+-- the settings give an option one value or none, or else more
+pub once_is : (values : List (List ℕ)) (r : Option (Option (Bor (List ℕ)))) → IfSome r (λ o. values ≡ option_to_list (text_of o)) → IfNone r ((x : Option (List ℕ)) → values ≢ option_to_list x) → is_some r ≡ at_most_one values
+once_is values (Some None) some none = rw some refl
+once_is values (Some (Some v)) some none = rw some refl
+once_is [] None some none = absurd (none None refl)
+once_is (v ∷ []) None some none = absurd (none (Some v) refl)
+once_is (v ∷ w ∷ vs) None some none = refl

@@ -1,5 +1,5 @@
 -- The table of commands and their options, and which values settings give to options.
-use Rattle.std.specs.Prelude.{ℕ, ◌≡◌, ◌≤◌, ◌^◌, ◌-◌, List, [], ◌∷◌, Bool, true, map, codes, decimal}
+use Rattle.std.specs.Prelude.{ℕ, ◌≡◌, ◌≤◌, ◌^◌, ◌-◌, List, [], ◌∷◌, Bool, true, false, map, codes, decimal}
 use Rattle.std.specs.Prelude.{Some, None, option_map, if◌then◌else◌}
 use Rattle.std.specs.Borrow.{Bor}
 use Rattle.std.specs.List.{AllByRecursion, filter_map, list_any, list_all}
@@ -97,6 +97,15 @@ IsGiven settings (number name low high n) =
 
 abbrev pub is_named : List (List ℕ) → Setting → Bool
 is_named names setting = list_any (λ name. bytes_eq setting.name name) names
+
+abbrev pub at_most_one : List (List ℕ) → Bool
+at_most_one [] = true
+at_most_one (value ∷ []) = true
+at_most_one (value ∷ other ∷ values) = false
+
+-- the settings give the option at most one value
+abbrev pub is_once : List ℕ → List Setting → Bool
+is_once name settings = at_most_one (values_of name settings)
 
 -- the settings give these options their values, each at most once, and no other option
 pub record Give (settings : List Setting) (options : List Choice) : Type 0 where

@@ -4,6 +4,7 @@
 mod command;
 mod decimal;
 mod law;
+mod parsing;
 mod places;
 mod read;
 mod rows;

@@ -19,7 +19,7 @@ pub fn read_words(alloc: Global, words: &[&str]) -> Result<Command, WordsFault>
     }
     let (_, behind) = words.split_at(1);
     match read_settings(alloc, behind) {
-        Ok(settings) => command_of(alloc, words[0], settings.as_slice()),
+        Ok(settings) => command_of(alloc, words[0], behind, settings.as_slice()),
         Err(fault) => Err(fault),
     }
 }
