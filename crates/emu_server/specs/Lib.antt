@@ -7,6 +7,7 @@
 -- Serve: what serving says at its end.
 -- Serving: which words ask to serve, and how serving ends.
 -- Top: how a call ends on its words, its history and its world.
+-- Complete: when a call that is to serve serves to its end.
 pub mod Lines
 pub mod Histories
 pub mod Answer
@@ -16,3 +17,4 @@ pub mod Written
 pub mod Serve
 pub mod Serving
 pub mod Top
+pub mod Complete

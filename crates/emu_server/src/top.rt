@@ -3,10 +3,12 @@ ghost use Rattle.std.specs.Prelude.{◌≡◌, ◌≤◌, ◌+◌, ◌⊎◌, �
 ghost use Rattle.std.specs.Io.KnownBytes.{Keeps, IsAtEnd};
 ghost use Rattle.basis.specs.Counts.{Rose};
 ghost use Rattle.emu_server.specs.Answer.{IsCommandLine};
+ghost use Rattle.emu_server.specs.Complete.{CanServe, IsCalm};
 ghost use Rattle.emu_server.specs.Run.{IsEnd, IsPlainEnd, TakesAtMost};
 ghost use Rattle.emu_server.specs.Serving.{AsksToServe, ServesWith, texts_given};
 ghost use Rattle.emu_server.specs.Top.{IsRun, IsServeRun};
 ghost use Rattle.commands.specs.Work.{IsPlain};
+ghost use Rattle.object_journal.specs.Standing.{chosen};
 ghost use Rattle.served_history.specs.Releases.{FlagTexts as TheTexts};
 ghost use Rattle.words.specs.Commands.{IsCommand};
 ghost use Rattle.words.specs.Settings.{texts_of};
@@ -208,7 +210,15 @@ pub fn run<S: Source, K: Sink, W: Front>(
     ensures writes_later { K.faults out.old ≤ K.faults out.new }
     ensures disk_fault { result ≡ Status.DiskFault → Rose (W.faults world.old) (W.faults world.new) }
     ensures front_fault { result ≡ Status.FrontFault → IsAboveMark (W.beside world.new) }
+
+    // What can be served is served to the front's end, where nothing fails beneath; but for want of memory.
+    ensures complete { W.tells → (bytes : List ℕ) → S.left history.old ≡ Some bytes
+        → CanServe (texts_of words.now) bytes (W.held world.old chosen)
+        → IsCalm (S.faults history.old) (S.faults history.new) (K.faults out.old) (K.faults out.new)
+        (W.faults world.old) (W.faults world.new) (W.beside world.new)
+        → (result ≡ Status.Ok) ⊎ (result ≡ Status.Memory) }
 {
+    words_have_one_command(words);
     match served_texts(alloc, words) {
         Ok(Some(flags)) => serve(alloc, &flags, history, out, world),
         Ok(None) => run_plain(alloc, words, history, out),
