@@ -176,8 +176,10 @@ impl Table {
     /// Whether nothing can be done before the system tells of a socket.
     pub fn is_idle(&self, outgoing: &Outgoing) -> bool {
         self.open.iter().all(|connection| {
-            !connection.is_readable()
-                && !(connection.is_writable() && outgoing.waits(connection.number))
+            let waits = outgoing.waits(connection.number);
+            // One that is done with is dropped first.
+            let is_done = connection.is_heard() && !waits;
+            !is_done && !connection.is_readable() && !(connection.is_writable() && waits)
         })
     }
 
