@@ -1,7 +1,9 @@
 //! The texts of options.
 ghost use Rattle.std.specs.Prelude.{◌≡◌, [], IfOk, string_bytes, unwrap_or};
 ghost use Rattle.commands.specs.Releases.{emulated_line};
+ghost use Rattle.commands.specs.Texts.{texts_given};
 ghost use Rattle.release_choice.specs.Choice.{text_of};
+ghost use Rattle.served_history.specs.Releases.{flag_texts};
 
 use crate::answer::Answer;
 use crate::status::Status;
@@ -10,7 +12,9 @@ use basis::Memory;
 use minor_version::Text;
 use release_choice::VersionFault;
 use schemas::Accepted;
+use served_history::Texts;
 use std::alloc::Global;
+use words::FlagTexts;
 
 /// The text, where it is given.
 pub fn given(text: &Option<Text>) -> Option<&str>
@@ -29,6 +33,18 @@ pub fn text_or_empty(text: Option<&str>) -> &str
     match text {
         Some(text) => text,
         None => "",
+    }
+}
+
+/// The texts that choose what is served.
+pub fn texts_in(flags: &FlagTexts) -> Texts<'_>
+    ensures { flag_texts result ≡ texts_given flags.now }
+{
+    Texts {
+        emulated: given(&flags.emulated),
+        least: given(&flags.min_compatibility),
+        features: given(&flags.features),
+        runtime: given(&flags.runtime),
     }
 }
 

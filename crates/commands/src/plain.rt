@@ -5,7 +5,8 @@ ghost use Rattle.commands.specs.Work.{IsPlain, IsWork};
 
 use crate::answer::Answer;
 use crate::options::given;
-use crate::{check, convert, cut, discover, fold, gates};
+use crate::twins::MOST_REQUESTS;
+use crate::{check, convert, cut, discover, fold, gates, twins};
 use basis::Memory;
 use schemas::Accepted;
 use std::alloc::Global;
@@ -22,7 +23,8 @@ pub fn is_plain(command: &Command) -> bool
         | Command::Discover { .. }
         | Command::Gates { .. }
         | Command::Convert { .. } => true,
-        Command::Twin { .. } | Command::Serve { .. } | Command::Replay { .. } => false,
+        Command::Twin { size, .. } => *size <= MOST_REQUESTS,
+        Command::Serve { .. } | Command::Replay { .. } => false,
     }
 }
 
@@ -52,6 +54,9 @@ pub fn work(alloc: Global, command: &Command, accepted: &Accepted) -> Result<Ans
             to.as_str(),
             accepted,
         ),
-        Command::Twin { .. } | Command::Serve { .. } | Command::Replay { .. } => unreachable!(),
+        Command::Twin { flags, seed, size } => {
+            twins::answer(alloc, flags, *seed, *size, accepted)
+        }
+        Command::Serve { .. } | Command::Replay { .. } => unreachable!(),
     }
 }

@@ -45,8 +45,9 @@ use Rattle.words.specs.declared.command.Command.TheVariants.{Check, Convert, Cut
 use Rattle.emu_server.proofs.HistoryLemmas.{few_releases, one_accepted, refused_or_accepted}
 use Rattle.emu_server.specs.Complete.{CanServe, but_ends}
 use Rattle.emu_server.specs.Lines.{read_fault_line}
-use Rattle.emu_server.specs.Serve.{end_line, end_status}
-use Rattle.emu_server.specs.Serving.{AsksToServe, IsServedFrom, IsServing, IsTold, ServesWith, texts_given}
+use Rattle.commands.specs.Endings.{end_line, end_status}
+use Rattle.commands.specs.Texts.{texts_given}
+use Rattle.emu_server.specs.Serving.{AsksToServe, IsServedFrom, IsServing, IsTold, ServesWith}
 use Rattle.emu_server.specs.Top.{IsServeRun}
 use Rattle.emu_server.specs.Written.{IsWritten}
 

@@ -78,7 +78,8 @@ work_said (Gates emulated features) h s text (inr (e, is, inr w)) = is_flags s w
 work_said (Convert emulated object to) h s text (inl w) = is_flags s w.0
 work_said (Convert emulated object to) h s text (inr (e, is, (view, by, inl w))) = is_ok s w.0
 work_said (Convert emulated object to) h s text (inr (e, is, (view, by, inr w))) = is_flags s w.0
-work_said (Twin texts seed size) h s text w = absurd w
+work_said (Twin texts seed size) h s text (inl w) = is_ok s w.0
+work_said (Twin texts seed size) h s text (inr w) = is_flags s w.0
 work_said (Serve texts store port connections) h s text w = absurd w
 work_said (Replay texts store script) h s text w = absurd w
 

@@ -4,7 +4,6 @@
 -- Laws: that words and bytes have one answer.
 -- Run: how a call ends that serves nothing, with its status, the bytes written and the bytes taken.
 -- Written: what a text leaves that is written with a status.
--- Serve: what serving says at its end.
 -- Serving: which words ask to serve, and how serving ends.
 -- Top: how a call ends on its words, its history and its world.
 -- Complete: when a call that is to serve serves to its end.
@@ -14,7 +13,6 @@ pub mod Answer
 pub mod Laws
 pub mod Run
 pub mod Written
-pub mod Serve
 pub mod Serving
 pub mod Top
 pub mod Complete

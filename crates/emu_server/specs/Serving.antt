@@ -2,6 +2,8 @@
 use Rattle.std.specs.Prelude.{◌≡◌, ◌≢◌, ◌⊎◌, ℕ, List, Result, Err}
 use Rattle.std.specs.declared.option.Option.{Option}
 use Rattle.std.specs.Io.KnownBytes.{Keeps}
+use Rattle.commands.specs.Endings.{end_line, end_status}
+use Rattle.commands.specs.Texts.{texts_given}
 use Rattle.commands.specs.declared.status.Status.{Status}
 use Rattle.commands.specs.declared.status.Status.TheVariants as status
 use Rattle.disk.specs.Beside.{Beside}
@@ -16,18 +18,8 @@ use Rattle.session_ends.specs.declared.served.Served.{Served}
 use Rattle.words.specs.Commands.{IsCommand}
 use Rattle.words.specs.declared.command.Command.{Command}
 use Rattle.words.specs.declared.command.Command.TheVariants.{Serve, Replay}
-use Rattle.words.specs.declared.command.FlagTexts.{FlagTexts as GivenTexts}
 use Rattle.emu_server.specs.Histories.{IsHistoryRefusal, MeansAccepted}
-use Rattle.emu_server.specs.Serve.{end_line, end_status}
 use Rattle.emu_server.specs.Written.{IsWritten}
-
-abbrev pub texts_given : GivenTexts → FlagTexts
-texts_given t = record {
-  emulated = t.emulated;
-  least = t.min_compatibility;
-  features = t.features;
-  runtime = t.runtime;
-}
 
 -- the command serves, with these texts
 abbrev pub ServesWith : Command → FlagTexts → Type 0

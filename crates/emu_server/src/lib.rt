@@ -3,7 +3,6 @@
 
 mod law;
 mod refusals;
-mod serve;
 mod serving;
 mod taking;
 mod top;

@@ -1,42 +1,19 @@
 //! A history is served: from its bytes to the line that says how serving ended.
 ghost use Rattle.std.specs.Prelude.{◌≡◌, ◌≤◌, ◌⊎◌, ◌≢◌};
 ghost use Rattle.basis.specs.Counts.{Rose};
-ghost use Rattle.emu_server.specs.Serving.{IsServedFrom, IsServing, texts_given};
-ghost use Rattle.release_choice.specs.Choice.{text_of};
-ghost use Rattle.served_history.specs.Releases.{flag_texts};
+ghost use Rattle.commands.specs.Texts.{texts_given};
+ghost use Rattle.emu_server.specs.Serving.{IsServedFrom, IsServing};
 ghost use Rattle.world.specs.Fronts.{IsAboveMark, IsAtStart};
 
 use crate::refusals::{NoHistory, accepted_history};
-use crate::serve::{line_of, status_of};
 use crate::writing::end_with;
-use commands::Status;
-use minor_version::Text;
+use commands::{Status, line_of, status_of, texts_in};
 use outside::Sink;
 use schemas::Accepted;
-use served_history::{Texts, serve_history};
+use served_history::serve_history;
 use std::alloc::Global;
 use words::FlagTexts;
 use world::Front;
-
-fn given(text: &Option<Text>) -> Option<&str>
-    ensures { text_of result ≡ text.now }
-{
-    match text {
-        Some(text) => Some(text.as_str()),
-        None => None,
-    }
-}
-
-fn texts_in(flags: &FlagTexts) -> Texts<'_>
-    ensures { flag_texts result ≡ texts_given flags.now }
-{
-    Texts {
-        emulated: given(&flags.emulated),
-        least: given(&flags.min_compatibility),
-        features: given(&flags.features),
-        runtime: given(&flags.runtime),
-    }
-}
 
 /// Serves an accepted history, and says how that ended.
 fn serve_accepted<K: Sink, W: Front>(

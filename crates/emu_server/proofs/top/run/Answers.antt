@@ -3,7 +3,8 @@ use Rattle.std.proofs.KnownBytes.{Keeps-refl}
 use Rattle.emu_server.proofs.CompleteLemmas.{complete, kept_bytes}
 use Rattle.emu_server.proofs.TopLemmas.{held, held-known}
 use Rattle.emu_server.proofs.top.run.Goals as goal
-use Rattle.emu_server.specs.Serving.{AsksToServe, texts_given}
+use Rattle.commands.specs.Texts.{texts_given}
+use Rattle.emu_server.specs.Serving.{AsksToServe}
 use Rattle.served_history.specs.Releases.{FlagTexts}
 use Rattle.words.specs.Settings.{texts_of}
 

@@ -4,7 +4,8 @@ use Rattle.std.proofs.KnownBytes.{Keeps-refl}
 use Rattle.emu_server.proofs.ServingLemmas.{served_held}
 use Rattle.emu_server.proofs.TopLemmas.{held, held-known}
 use Rattle.emu_server.proofs.top.serve.Goals as goal
-use Rattle.emu_server.specs.Serving.{IsServedFrom, texts_given}
+use Rattle.commands.specs.Texts.{texts_given}
+use Rattle.emu_server.specs.Serving.{IsServedFrom}
 
 pub returns-in-Ok-clause-ends : goal.returns-in-Ok-clause-ends
 returns-in-Ok-clause-ends g c =

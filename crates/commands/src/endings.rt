@@ -1,12 +1,12 @@
 //! What is said of serving at its end.
 ghost use Rattle.std.specs.Prelude.{◌≡◌, ◌≢◌, Err, IfOk, OnOk, string_bytes};
-ghost use Rattle.emu_server.specs.Serve.{end_line, end_status, fault_line};
+ghost use Rattle.commands.specs.Endings.{end_line, end_status, fault_line};
 
+use crate::status::Status;
 use answer_lines::{
     config_refusal, gate_refusal, not_a_store, served as served_text, unreadable, version_refusal,
 };
 use basis::Memory;
-use commands::Status;
 use runtime_config::ConfigFault;
 use schemas::Accepted;
 use served_history::{ServeFault, Served};
@@ -33,7 +33,8 @@ pub fn status_of(end: &Result<Served, ServeFault>) -> Status
     }
 }
 
-fn fault_line(alloc: Global, accepted: &Accepted, fault: &ServeFault) -> Result<String, Memory>
+/// The line that is written with a refusal or a fault. Of want of memory nothing is said.
+pub fn fault_line(alloc: Global, accepted: &Accepted, fault: &ServeFault) -> Result<String, Memory>
     ensures line { IfOk result (λ s. string_bytes s ≡ fault_line accepted.now fault.now) }
     ensures said { OnOk result (fault.now ≢ ServeFault.Memory) }
 {
