@@ -2,9 +2,11 @@
 #![tactic(auto)]
 
 mod count;
+mod law;
 mod running;
 mod sends;
 mod twins;
 
 pub use count::TwinCount;
+pub use law::twin_has_one_count;
 pub use twins::twin;
