@@ -23,14 +23,20 @@ use Rattle.schemas.proofs.LawLemmas.{gates_rise}
 use Rattle.schemas.specs.Cutoff.{cutoff}
 use Rattle.schemas.specs.Dated.{Dated}
 use Rattle.schemas.specs.Rules.{IsAccepted, first_of, last_of}
+use Rattle.served_history.specs.Releases.{FlagTexts}
+use Rattle.twin.proofs.OneLemmas.{twin_one}
+use Rattle.twin.proofs.TextsLemmas.{refused_or_twin, texts_one}
 use Rattle.words.specs.declared.command.Command.{Command}
 use Rattle.words.specs.declared.command.Command.TheVariants.{Check, Convert, Cut, Discover, Fold, Gates, Replay, Serve, Twin}
 use Rattle.commands.specs.Convert.{convert_fault_line, IsConversionAt, IsConversionBy}
 use Rattle.commands.specs.Cut.{IsCutting, IsRefusedAt, at_line}
 use Rattle.commands.specs.Discover.{group_list_text, IsGroupListLine, IsListingAt}
 use Rattle.commands.specs.Gates.{gate_lines, IsGateListingAt}
+use Rattle.commands.specs.Endings.{fault_line as serving_line}
 use Rattle.commands.specs.Laws.{AreOne, HasOneAnswer}
 use Rattle.commands.specs.Releases.{AtRelease, emulated_line}
+use Rattle.commands.specs.Texts.{texts_given}
+use Rattle.commands.specs.Twins.{IsTwinning, equal_line}
 use Rattle.commands.specs.Work.{IsWork}
 use Rattle.commands.specs.declared.status.Status.{Status}
 use Rattle.commands.specs.declared.status.Status.TheVariants as status
@@ -129,6 +135,20 @@ cut_one h at s t x y (inr a) (inr b) =
     let same = one_release at a.0 b.0 a.1 b.1 a.2 b.2 in
     one_of status.Ok a.4.0 b.4.0 (a.4.1 ∙ ap (λ o. history_text (cutoff h o)) same ∙ sym b.4.1)
 
+-- ---- `twin`
+
+twinning_one : (h : Dated) (o : FlagTexts) (seed size : ℕ) → IsAccepted h → last_of h ≤ 999 → (s t : Status) (x y : List ℕ)
+    → IsTwinning o seed size h s x → IsTwinning o seed size h t y → AreOne s t x y
+twinning_one h o seed size accepted few s t x y (inl a) (inl b) =
+    one_of status.Ok a.0 b.0 (a.1.2 ∙ ap equal_line (twin_one h o seed size a.1.0 b.1.0 few a.1.1 b.1.1) ∙ sym b.1.2)
+twinning_one h o seed size accepted few s t x y (inl a) (inr b) =
+    absurd (refused_or_twin h o accepted few b.1.0 seed size a.1.0 b.1.1 b.1.2 a.1.1)
+twinning_one h o seed size accepted few s t x y (inr a) (inl b) =
+    absurd (refused_or_twin h o accepted few a.1.0 seed size b.1.0 a.1.1 a.1.2 b.1.1)
+twinning_one h o seed size accepted few s t x y (inr a) (inr b) =
+    let same = texts_one h o accepted few a.1.0 b.1.0 a.1.1 b.1.1 a.1.2 b.1.2 in
+    one_of status.Flags a.0 b.0 (a.1.3 ∙ ap (serving_line h) same ∙ sym b.1.3)
+
 -- ---- the commands
 
 pub work_one : (h : Dated) → HasOneAnswer h
@@ -141,6 +161,6 @@ work_one h (Gates emulated features) s t x y accepted few a b =
     at_one emulated h (IsGateListingAt h (unwrap_or features [])) s t x y few (λ e. gates_one h (unwrap_or features []) (gates_rise h accepted) e s t x y) a b
 work_one h (Convert emulated object to) s t x y accepted few a b =
     at_one emulated h (IsConversionAt h object to) s t x y few (λ e. conversion_one h object to e s t x y) a b
-work_one h (Twin flags seed size) s t x y accepted few a b = absurd a
+work_one h (Twin flags seed size) s t x y accepted few a b = twinning_one h (texts_given flags) seed size accepted few s t x y a b
 work_one h (Serve flags store port connections) s t x y accepted few a b = absurd a
 work_one h (Replay flags store script) s t x y accepted few a b = absurd a

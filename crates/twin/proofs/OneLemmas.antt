@@ -153,5 +153,5 @@ pub twin_one : (h : Dated) → HasOneTwin h
 twin_one h o seed size a b few p q =
     let same = one_releases h o few p.e p.m q.e q.m p.accepts.releases q.accepts.releases in
     let cut : IsRunOf (cutoff h q.e) q.e q.m (given o.features) (given o.runtime) seed size a =
-        subst (λ (z : ℕ × ℕ). IsRunOf (cutoff h z.0) z.0 z.1 (given o.features) (given o.runtime) seed size a) (λ i. (same.0 i, same.1 i)) p.cut in
+    subst (λ (z : ℕ × ℕ). IsRunOf (cutoff h z.0) z.0 z.1 (given o.features) (given o.runtime) seed size a) (λ i. (same.0 i, same.1 i)) p.cut in
     run_one (cutoff h q.e) q.e q.m (given o.features) (given o.runtime) seed size a b cut q.cut
