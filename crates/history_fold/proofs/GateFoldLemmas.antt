@@ -28,14 +28,14 @@ use Rattle.history_fold.proofs.ListLemmas.{last_stays, last_holds, all_from}
 
 -- ---- what is past
 
-later_said : (floor : ℕ) (x y : GateEntry) → is_later_spec floor x y ≡ true → IsLaterSpec floor x y
+pub later_said : (floor : ℕ) (x y : GateEntry) → is_later_spec floor x y ≡ true → IsLaterSpec floor x y
 later_said floor x y h =
     let (spec, rest) = and_parts (is_spec y.change) (bytes_eq y.name x.name && (nat_lt x.since y.since && nat_le y.since floor)) h in
     let (name, dates) = and_parts (bytes_eq y.name x.name) (nat_lt x.since y.since && nat_le y.since floor) rest in
     let (after, by) = and_parts (nat_lt x.since y.since) (nat_le y.since floor) dates in
     record { spec = spec; named = (bytes_eq-Decides y.name x.name).0 name; later = ltb-true x.since y.since after; dated = leb-true y.since floor by }
 
-later_tested : (floor : ℕ) (x y : GateEntry) → IsLaterSpec floor x y → is_later_spec floor x y ≡ true
+pub later_tested : (floor : ℕ) (x y : GateEntry) → IsLaterSpec floor x y → is_later_spec floor x y ≡ true
 later_tested floor x y is =
     and_from (is_spec y.change) (bytes_eq y.name x.name && (nat_lt x.since y.since && nat_le y.since floor)) is.spec
     (and_from (bytes_eq y.name x.name) (nat_lt x.since y.since && nat_le y.since floor) ((bytes_eq-Decides y.name x.name).1 is.named)

@@ -1,5 +1,6 @@
 pub mod ListLemmas
 pub mod GateFoldLemmas
+pub mod ByNameLemmas
 pub mod ApiFoldLemmas
 pub mod FieldFoldLemmas
 pub mod FoldLemmas

@@ -1,11 +1,12 @@
 -- Lists of what passes a test: the first, and the last, of those that pass another.
-use Rattle.std.proofs.Common.{◌≡◌, List, [], ◌∷◌, ◌++◌, Bool, true, false, Option, Some, None, cond, filter, Contains, reverse, refl, sym, ap, subst, ◌∙◌, inl, inr}
+use Rattle.std.proofs.Common.{ℕ, ◌≡◌, ◌+◌, ◌<◌, length, take, get_or, List, [], ◌∷◌, ◌++◌, Bool, true, false, Option, Some, None, cond, filter, Contains, reverse, refl, sym, ap, subst, ◌∙◌, inl, inr}
 use Rattle.std.specs.Prelude.{find, All, IfSome}
 use Rattle.std.specs.List.{AllByRecursion}
 use Rattle.std.specs.Option.{option_or}
 use Rattle.std.proofs.lemmas.Bool.{cases_Bool, cond-true, cond-false, false≢true, false_from_ne_true}
-use Rattle.std.proofs.lemmas.List.{append-nil, reverse-append}
+use Rattle.std.proofs.lemmas.List.{append-nil, reverse-append, take_more}
 use Rattle.std.proofs.lemmas.List.Elements.{All-weaker, All-contains_itself, filter-append}
+use Rattle.basis.proofs.FilterLemmas.{filter-push, filter-push_not}
 use Rattle.history_cut.proofs.KeptLemmas.{kept_head, left_head, last_of_more}
 use Rattle.schemas.specs.Places.{last_passing}
 use Rattle.schemas.proofs.PlaceLemmas.{some_injective}
@@ -86,3 +87,18 @@ last_holds {E} P test (z ∷ zs) all =
 
 pub all_from : {E : Type 0} (P : E → Type 0) (xs : List E) → ((x : E) → Contains xs x → P x) → All P xs
 all_from P xs each = All-weaker (Contains xs) P each xs (All-contains_itself xs)
+
+-- ---- one more
+
+-- what passes of a front, with one element more
+pub front_keeps : {E : Type 0} (p : E → Bool) (xs : List E) (i : ℕ) (x : E) (kept new : List E) → i < length xs → get_or xs i x ≡ x → kept ≡ filter p (take i xs)
+    → p x ≡ true → new ≡ kept ++ x ∷ [] → new ≡ filter p (take (i + 1) xs)
+front_keeps {E} p xs i x kept new within at is passes grows =
+    grows ∙ ap (λ ys. ys ++ x ∷ []) is ∙ sym (filter-push p (take i xs) x passes)
+    ∙ ap (λ (y : E). filter p (take i xs ++ y ∷ [])) (sym at) ∙ ap (filter p) (sym (take_more xs i x within))
+
+pub front_leaves : {E : Type 0} (p : E → Bool) (xs : List E) (i : ℕ) (x : E) (kept new : List E) → i < length xs → get_or xs i x ≡ x → kept ≡ filter p (take i xs)
+    → p x ≡ false → new ≡ kept → new ≡ filter p (take (i + 1) xs)
+front_leaves {E} p xs i x kept new within at is fails same =
+    same ∙ is ∙ sym (filter-push_not p (take i xs) x fails)
+    ∙ ap (λ (y : E). filter p (take i xs ++ y ∷ [])) (sym at) ∙ ap (filter p) (sym (take_more xs i x within))

@@ -1,9 +1,8 @@
-//! The entries that a fold keeps: copies of those that some release from the floor on needs, in order. Each entry is
-//! compared with all the others, so a fold is for once in a while.
+//! The entries that a fold keeps: copies of those that some release from the floor on needs, in order.
 ghost use Rattle.std.specs.Prelude.{◌≡◌, IfOk};
 ghost use Rattle.history_fold.specs.Folded.{gates_from, apis_from, spells_from};
 
-use crate::past::{is_forgotten, is_past, version_of};
+use crate::past::{forgotten_versions, is_forgotten, is_past, latest_specs, version_of};
 use basis::Memory;
 use fields::{Field, FieldList, Spell, SpellList};
 use gate_spec::GateEntry;
@@ -17,9 +16,10 @@ use std::alloc::Global;
 pub fn kept_gates(alloc: Global, gates: &[GateEntry], floor: Minor) -> Result<GateList, Memory>
     ensures { IfOk result (λ kept. kept ≡ gates_from gates.now floor) }
 {
+    let latest = latest_specs(alloc, gates, floor)?;
     let mut kept = GateList::new();
     for entry in gates {
-        if !is_past(gates, entry, floor) {
+        if !is_past(&latest, entry) {
             let copy = copy_of_gate(alloc, entry)?;
             kept.push(alloc, copy)?;
         }
@@ -31,9 +31,10 @@ pub fn kept_gates(alloc: Global, gates: &[GateEntry], floor: Minor) -> Result<Ga
 pub fn kept_apis(alloc: Global, apis: &[ApiEntry], floor: Minor) -> Result<ApiList, Memory>
     ensures { IfOk result (λ kept. kept ≡ apis_from apis.now floor) }
 {
+    let forgotten = forgotten_versions(alloc, apis, floor)?;
     let mut kept = ApiList::new();
     for entry in apis {
-        if !is_forgotten(apis, entry.name(), floor) {
+        if !is_forgotten(&forgotten, entry.name()) {
             let copy = copy_of_api(alloc, entry)?;
             kept.push(alloc, copy)?;
         }
@@ -62,9 +63,10 @@ pub fn kept_spells(
 ) -> Result<SpellList, Memory>
     ensures { IfOk result (λ kept. kept ≡ spells_from apis.now spells.now floor) }
 {
+    let forgotten = forgotten_versions(alloc, apis, floor)?;
     let mut kept = SpellList::new();
     for spell in spells {
-        if !is_forgotten(apis, version_of(spell), floor) {
+        if !is_forgotten(&forgotten, version_of(spell)) {
             let copy = copy_of_spell(alloc, spell)?;
             kept.push(alloc, copy)?;
         }

@@ -3,4 +3,4 @@ use Rattle.history_fold.specs.Folded.{is_past}
 use Rattle.history_fold.proofs.kept.kept_gates.Given as goal
 
 abbrev pub invariant-loop-entry : goal.invariant-loop-entry
-invariant-loop-entry l = l.kept ≡ filter (λ x. not (is_past l.gates l.floor x)) (take l.entry-index l.gates)
+invariant-loop-entry l = l.kept ≡ filter (λ x. not (is_past l.gates l.fn.floor x)) (take l.entry-index l.gates)
