@@ -9,6 +9,7 @@ use crate::outgoing::Outgoing;
 use crate::script::print_reply;
 use minor_version::Blob;
 use std::io::{self, ErrorKind};
+use std::time::Clock;
 use world::{Event, Tape};
 
 /// What brings connections.
@@ -39,7 +40,12 @@ impl Clients {
     }
 
     /// Takes the next event.
-    pub fn next(&mut self, into: &mut [u8], outgoing: &mut Outgoing) -> io::Result<Event>
+    pub fn next(
+        &mut self,
+        rt: &impl Clock,
+        into: &mut [u8],
+        outgoing: &mut Outgoing,
+    ) -> io::Result<Event>
         requires { 1 ≤ length into.old }
         ensures numbered { IfOk result
             (λ e. IsNumbered (length into.old) e (opened_by self.old) (opened_by self.new)) }
@@ -51,7 +57,7 @@ impl Clients {
         match self {
             Clients::Nobody => Err(nobody()),
             Clients::Script(tape) => Ok(tape.next(into)),
-            Clients::Listening(listener) => listener.next(into, outgoing),
+            Clients::Listening(listener) => listener.next(rt, into, outgoing),
         }
     }
 

@@ -7,10 +7,17 @@ use mio::net::TcpStream;
 use mio::{Interest, Registry, Token};
 use std::io::{self, ErrorKind, Read, Write};
 use std::net::Shutdown;
+use std::time::Instant;
 use world::Event;
 
 // How many bytes of a connection that was shut are read and dropped, before its socket is closed all the same.
 const DROPPED_AT_MOST: usize = 1_048_576;
+
+// For so many seconds nothing may move on a connection: as long as an API server of Kubernetes keeps an idle one.
+const SILENT_SECONDS: u64 = 90;
+
+/// For so many seconds nothing may move on a connection that nobody needs: all was sent, or another client wants its place.
+pub const LINGER_SECONDS: u64 = 2;
 
 /// How far a connection has come.
 #[derive(Clone, Copy, Debug, PartialEq, Eq)]
@@ -35,11 +42,14 @@ pub struct Connection {
     writable: bool,
     stage: Stage,
     dropped: usize,
+    // Whether something moved since the time was noted last.
+    has_moved: bool,
+    silent_since: Instant,
 }
 
 impl Connection {
-    /// A connection that was just opened.
-    pub fn new(number: u32, stream: TcpStream) -> Self
+    /// A connection that was opened at this time.
+    pub fn new(number: u32, stream: TcpStream, now: Instant) -> Self
         ensures { result.number ≡ number }
     {
         // Small replies aren't held back; where the system refuses that, they are late.
@@ -51,6 +61,8 @@ impl Connection {
             writable: true,
             stage: Stage::Open,
             dropped: 0,
+            has_moved: false,
+            silent_since: now,
         }
     }
 
@@ -88,11 +100,6 @@ impl Connection {
         self.writable
     }
 
-    /// Whether the server has sent all and waits for the client to close.
-    pub fn is_finished(&self) -> bool {
-        self.stage == Stage::Finished
-    }
-
     /// Whether the client sends nothing more.
     pub fn is_heard(&self) -> bool {
         self.stage == Stage::Heard
@@ -105,13 +112,28 @@ impl Connection {
         self.readable = true;
     }
 
-    /// Waits no longer for the client to close.
-    pub fn give_up(&mut self)
+    /// Notes the time, where something moved since it was noted last.
+    pub fn note_time(&mut self, now: Instant)
         ensures { self.new.number ≡ self.old.number }
     {
-        if self.stage == Stage::Finished {
-            self.stage = Stage::Heard;
+        if self.has_moved {
+            self.has_moved = false;
+            self.silent_since = now;
         }
+    }
+
+    /// For how many seconds nothing has moved.
+    pub fn silence(&self, now: Instant) -> u64 {
+        now.duration_since(self.silent_since).as_secs()
+    }
+
+    /// Whether nothing has moved for longer than is waited for.
+    pub fn is_overdue(&self, now: Instant) -> bool {
+        let patience = match self.stage {
+            Stage::Finished => LINGER_SECONDS,
+            _ => SILENT_SECONDS,
+        };
+        self.silence(now) >= patience
     }
 
     /// Sends nothing more than what waits.
@@ -132,6 +154,7 @@ impl Connection {
             let _ = self.stream.shutdown(Shutdown::Write);
             self.stage = Stage::Finished;
             self.readable = true;
+            self.has_moved = true;
         }
     }
 
@@ -159,6 +182,7 @@ impl Connection {
         ensures same { self.new.number ≡ self.old.number }
         ensures event { IfSome result (IsOf self.old.number count) }
     {
+        self.has_moved = true;
         if self.stage == Stage::Open {
             return Some(Event::Piece(self.number, count));
         }
@@ -169,7 +193,8 @@ impl Connection {
         None
     }
 
-    fn hear_end(&mut self) -> Option<Event>
+    /// Nothing more comes of the client. That is told, unless the connection was shut.
+    pub fn hear_end(&mut self) -> Option<Event>
         ensures same { self.new.number ≡ self.old.number }
         ensures event { IfSome result (λ e. e ≡ Event.Closed self.old.number) }
     {
@@ -185,7 +210,10 @@ impl Connection {
     {
         match self.stream.write(bytes) {
             Ok(0) => Err(io::Error::from(ErrorKind::WriteZero)),
-            Ok(count) => Ok(count),
+            Ok(count) => {
+                self.has_moved = true;
+                Ok(count)
+            }
             Err(error) => match error.kind() {
                 ErrorKind::WouldBlock => {
                     self.writable = false;

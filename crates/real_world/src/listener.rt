@@ -13,20 +13,20 @@ use mio::{Events, Interest, Poll, Token};
 use std::alloc::Global;
 use std::io::{self, ErrorKind};
 use std::net::{IpAddr, Ipv4Addr, Net, SocketAddr};
-use std::time::Duration;
+use std::time::{Clock, Duration, Instant};
 use world::Event;
 
 const LISTENING: Token = Token(0);
 
-// For so long a client may be silent before its connection, of which all was sent, is closed without it.
-const LINGER_SECONDS: u64 = 2;
+// After so long at most the silence of the clients is looked at.
+const LOOK_SECONDS: u64 = 1;
 
 /// A listening socket and the connections that it took.
 #[derive(Drop)]
 pub struct Listener {
     // None once all connections were taken.
     socket: Option<TcpListener>,
-    // Whether a connection may wait to be taken.
+    // Whether a connection may wait to be taken. Where there is no place for one, whether it does.
     is_ready: bool,
     poll: Poll,
     readiness: Events,
@@ -70,14 +70,19 @@ impl Listener {
     }
 
     /// Takes the next event. Waits for the system to tell of a socket while there is none.
-    pub fn next(&mut self, into: &mut [u8], outgoing: &mut Outgoing) -> io::Result<Event>
+    pub fn next(
+        &mut self,
+        clock: &impl Clock,
+        into: &mut [u8],
+        outgoing: &mut Outgoing,
+    ) -> io::Result<Event>
         ensures numbered { IfOk result
             (λ e. IsNumbered (length into.old) e self.old.table.opened self.new.table.opened) }
         ensures failed { OnErr result (self.new.table.opened ≡ self.old.table.opened) }
         ensures spare { outgoing.new.spare ≡ outgoing.old.spare }
     {
         for _ in 0..u64::MAX {
-            match self.step(into, outgoing) {
+            match self.step(clock, into, outgoing) {
                 Ok(None) => {}
                 Ok(Some(event)) => return Ok(event),
                 Err(error) => return Err(error),
@@ -87,25 +92,33 @@ impl Listener {
     }
 
     // Takes an event, if there is one, or goes on to where there may be one.
-    fn step(&mut self, into: &mut [u8], outgoing: &mut Outgoing) -> io::Result<Option<Event>>
+    fn step(
+        &mut self,
+        clock: &impl Clock,
+        into: &mut [u8],
+        outgoing: &mut Outgoing,
+    ) -> io::Result<Option<Event>>
         ensures some { IfOk result (λ o. IfSome o
             (λ e. IsNumbered (length into.old) e self.old.table.opened self.new.table.opened)) }
         ensures none { IfOk result (λ o. IfNone o (self.new.table.opened ≡ self.old.table.opened)) }
         ensures failed { OnErr result (self.new.table.opened ≡ self.old.table.opened) }
         ensures spare { outgoing.new.spare ≡ outgoing.old.spare }
     {
-        self.table.settle(outgoing);
-        if let Some(event) = self.accept()? {
+        let now = Instant::now(clock)?;
+        self.table.settle(now, outgoing);
+        if self.table.opened() >= self.limit && self.table.is_empty() {
+            return Ok(Some(Event::End));
+        }
+        self.wait(outgoing)?;
+        if let Some(event) = self.accept(now)? {
+            return Ok(Some(event));
+        }
+        let is_wanted = self.is_wanted();
+        if let Some(event) = self.table.give_up(now, is_wanted, outgoing) {
             return Ok(Some(event));
         }
         if let Some(event) = self.table.take(into) {
             return Ok(Some(event));
-        }
-        if self.table.opened() >= self.limit && self.table.is_empty() {
-            return Ok(Some(Event::End));
-        }
-        if !self.may_accept() && self.table.is_idle(outgoing) {
-            self.wait()?;
         }
         Ok(None)
     }
@@ -117,8 +130,13 @@ impl Listener {
         self.is_ready && !self.table.is_full() && self.table.opened() < self.limit
     }
 
+    // Whether a connection waits for which there is no place.
+    fn is_wanted(&self) -> bool {
+        self.is_ready && self.table.is_full() && self.socket.is_some()
+    }
+
     // Takes a connection that waits, where one more may be open and one more is to be taken.
-    fn accept(&mut self) -> io::Result<Option<Event>>
+    fn accept(&mut self, now: Instant) -> io::Result<Option<Event>>
         ensures some { IfOk result (λ o. IfSome o
             (λ e. (e ≡ Event.Opened self.old.table.opened) × (self.new.table.opened ≡ self.old.table.opened + 1))) }
         ensures none { IfOk result (λ o. IfNone o (self.new.table.opened ≡ self.old.table.opened)) }
@@ -132,10 +150,8 @@ impl Listener {
         };
         match socket.accept() {
             Ok((stream, _)) => {
-                let event = self.table.add(self.poll.registry(), stream)?;
-                if self.table.opened() >= self.limit {
-                    self.socket = None;
-                }
+                let event = self.table.add(self.poll.registry(), stream, now)?;
+                self.ask();
                 Ok(Some(event))
             }
             Err(error) => match error.kind() {
@@ -149,16 +165,41 @@ impl Listener {
         }
     }
 
-    // Waits for the system to tell of a socket.
-    fn wait(&mut self) -> io::Result<()>
+    // Takes no more where all were taken. Where the table is full, the system is to tell anew whether a connection waits.
+    fn ask(&mut self)
+        ensures { self.new.table ≡ self.old.table }
+    {
+        if self.table.opened() >= self.limit {
+            self.socket = None;
+        }
+        if self.table.is_full()
+            && let Some(socket) = &mut self.socket
+        {
+            let asked = self
+                .poll
+                .registry()
+                .reregister(socket, LISTENING, Interest::READABLE);
+            self.is_ready = asked.is_err();
+        }
+    }
+
+    // For how long there is nothing to do, unless the system tells of a socket.
+    fn leisure(&self, outgoing: &Outgoing) -> Option<Duration> {
+        if self.may_accept() || !self.table.is_idle(outgoing) {
+            Some(Duration::ZERO)
+        } else if self.table.is_empty() {
+            None
+        } else {
+            Some(Duration::from_secs(LOOK_SECONDS))
+        }
+    }
+
+    // Hears what the system tells of sockets. Where there is nothing to do, it waits for that.
+    fn wait(&mut self, outgoing: &Outgoing) -> io::Result<()>
         ensures { self.new.table.opened ≡ self.old.table.opened }
     {
-        let is_lingering = self.table.is_lingering();
-        let timeout = is_lingering.then_some(Duration::from_secs(LINGER_SECONDS));
-        self.poll.poll(&mut self.readiness, timeout)?;
-        if is_lingering && self.readiness.is_empty() {
-            self.table.give_up();
-        }
+        let leisure = self.leisure(outgoing);
+        self.poll.poll(&mut self.readiness, leisure)?;
         self.is_ready = self.is_ready
             || self
                 .readiness

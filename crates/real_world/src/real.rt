@@ -23,13 +23,14 @@ use std::alloc::Global;
 use std::io;
 use std::net::Net;
 use std::rt::Files;
+use std::time::Clock;
 use words::Places;
 use world::{Event, Front, Tape};
 
 /// A disk of files, and connections that a script or a listener brings. It tells nothing, and counts the machine's errors.
 /// Without a store each of its calls that can fail does so.
 #[derive(Drop)]
-pub struct RealWorld<'a, R: Files + Print> {
+pub struct RealWorld<'a, R: Files + Print + Clock> {
     rt: &'a R,
     store: Store<R>,
     clients: Clients,
@@ -56,7 +57,7 @@ fn clients_of<R: Files + Net + Eprint>(
     Ok(Clients::Listening(listener))
 }
 
-impl<'a, R: Files + Print> RealWorld<'a, R> {
+impl<'a, R: Files + Print + Clock> RealWorld<'a, R> {
     /// The world at the places. The script, if there is one, is read before the folder of the store is made, and the
     /// folder is made before the port is bound.
     pub fn from(rt: &'a R, alloc: Global, places: &Places) -> Result<Self, WorldFault>
@@ -122,7 +123,7 @@ impl<'a, R: Files + Print> RealWorld<'a, R> {
     }
 }
 
-impl<'a, R: Files + Print> Disk for RealWorld<'a, R> {
+impl<'a, R: Files + Print + Clock> Disk for RealWorld<'a, R> {
     ghost faults = { λ w. w.store.faults };
 
     ghost clock = { λ w. w.store.clock };
@@ -194,7 +195,7 @@ impl<'a, R: Files + Print> Disk for RealWorld<'a, R> {
     }
 }
 
-impl<'a, R: Files + Print> Front for RealWorld<'a, R> {
+impl<'a, R: Files + Print + Clock> Front for RealWorld<'a, R> {
     fn next(&mut self, into: &mut [u8]) -> Result<Event, Failed>
         requires { 1 ≤ length into.old }
         ensures numbered { IfOk result
@@ -211,7 +212,7 @@ impl<'a, R: Files + Print> Front for RealWorld<'a, R> {
         ensures script { IfOk result
             (λ e. TakesOfScript (length into.old) e into.new self.old.clients self.new.clients) }
     {
-        let event = self.clients.next(into, &mut self.outgoing);
+        let event = self.clients.next(self.rt, into, &mut self.outgoing);
         let _opened = self.clients.opened();
         self.told(event)
     }

@@ -2,7 +2,7 @@
 ghost use Rattle.std.specs.Prelude.{◌≡◌, ◌≤◌, ◌<◌, ◌+◌, ◌^◌, length, vec_len, IfOk, IfSome, OnErr};
 ghost use Rattle.real_world.specs.Listening.{AreBelow, IsBelow};
 
-use crate::connection::Connection;
+use crate::connection::{Connection, LINGER_SECONDS};
 use crate::outgoing::Outgoing;
 use basis::Memory;
 use minor_version::Blob;
@@ -11,6 +11,7 @@ use mio::net::TcpStream;
 use mio::{Events, Registry, Token};
 use std::alloc::Global;
 use std::io::{self, ErrorKind};
+use std::time::Instant;
 use world::Event;
 
 /// How many connections are open at most.
@@ -63,14 +64,14 @@ impl Table {
         self.open.len() >= OPEN_AT_MOST
     }
 
-    /// Adds a connection that was just opened.
-    pub fn add(&mut self, registry: &Registry, stream: TcpStream) -> io::Result<Event>
+    /// Adds a connection that was opened at this time.
+    pub fn add(&mut self, registry: &Registry, stream: TcpStream, now: Instant) -> io::Result<Event>
         requires { self.old.opened + 1 < 2 ^ 32 }
         ensures ok { IfOk result (λ e. (e ≡ Event.Opened self.old.opened) × (self.new.opened ≡ self.old.opened + 1)) }
         ensures err { OnErr result (self.new.opened ≡ self.old.opened) }
     {
         let number = self.opened;
-        let mut connection = Connection::new(number, stream);
+        let mut connection = Connection::new(number, stream, now);
         connection.register(registry, token_of(number))?;
         match self.open.push(connection) {
             Ok(()) => {
@@ -162,44 +163,85 @@ impl Table {
         sent
     }
 
-    /// Sends what waits, as far as the sockets take it, and drops the connections that are done with.
-    pub fn settle(&mut self, outgoing: &mut Outgoing)
+    /// Notes the time at what moved, sends what waits, as far as the sockets take it, and drops the connections that are
+    /// done with.
+    pub fn settle(&mut self, now: Instant, outgoing: &mut Outgoing)
         ensures opened { self.new.opened ≡ self.old.opened }
         ensures spare { outgoing.new.spare ≡ outgoing.old.spare }
     {
         for at in 0..self.open.len() {
-            settle_one(&mut self.open[at], outgoing);
+            settle_one(&mut self.open[at], now, outgoing);
         }
         self.open.retain(|connection| !connection.is_heard() || outgoing.waits(connection.number));
     }
 
     /// Whether nothing can be done before the system tells of a socket.
     pub fn is_idle(&self, outgoing: &Outgoing) -> bool {
-        self.open.iter().all(|connection| {
-            let waits = outgoing.waits(connection.number);
-            // One that is done with is dropped first.
-            let is_done = connection.is_heard() && !waits;
-            !is_done && !connection.is_readable() && !(connection.is_writable() && waits)
+        self.open
+            .iter()
+            .all(|connection| is_still(connection, outgoing))
+    }
+
+    // The place of a connection on which nothing has moved for longer than is waited for.
+    fn overdue(&self, now: Instant, outgoing: &Outgoing) -> Option<usize>
+        ensures { IfSome result (λ at. at < vec_len self.now.open) }
+    {
+        self.open.iter().position(|connection| connection.is_overdue(now)
+            && is_still(connection, outgoing))
+    }
+
+    // For how many seconds nothing has moved on the connection that is silent longest.
+    fn longest_silence(&self, now: Instant) -> Option<u64> {
+        self.open
+            .iter()
+            .map(|connection| connection.silence(now))
+            .max()
+    }
+
+    // The place of that connection, where another client may have it.
+    fn longest_silent(&self, now: Instant, outgoing: &Outgoing) -> Option<usize>
+        ensures { IfSome result (λ at. at < vec_len self.now.open) }
+    {
+        let longest = self.longest_silence(now)?;
+        if longest < LINGER_SECONDS {
+            return None;
+        }
+        self.open.iter().position(|connection| {
+            connection.silence(now) == longest && is_still(connection, outgoing)
         })
     }
 
-    /// Whether a client is waited for only to close.
-    pub fn is_lingering(&self) -> bool {
-        self.open.iter().any(|connection| connection.is_finished())
-    }
-
-    /// Waits no longer for those clients.
-    pub fn give_up(&mut self)
-        ensures { self.new.opened ≡ self.old.opened }
+    /// Gives up a connection of which the client was silent for too long, and what waits for it. Where a place is wanted
+    /// and there is none such, it is the one that is silent longest.
+    pub fn give_up(
+        &mut self,
+        now: Instant,
+        is_wanted: bool,
+        outgoing: &mut Outgoing,
+    ) -> Option<Event>
+        ensures opened { self.new.opened ≡ self.old.opened }
+        ensures event { IfSome result (IsBelow self.old.opened 0) }
+        ensures spare { outgoing.new.spare ≡ outgoing.old.spare }
     {
-        for at in 0..self.open.len() {
-            self.open[at].give_up();
-        }
+        let at = match self.overdue(now, outgoing) {
+            None if is_wanted => self.longest_silent(now, outgoing)?,
+            overdue => overdue?,
+        };
+        outgoing.forget(self.open[at].number);
+        self.open[at].hear_end()
     }
 }
 
+// Whether nothing can be done for the connection before the system tells of its socket.
+fn is_still(connection: &Connection, outgoing: &Outgoing) -> bool {
+    let waits = outgoing.waits(connection.number);
+    // One that is done with is dropped first.
+    let is_done = connection.is_heard() && !waits;
+    !is_done && !connection.is_readable() && !(connection.is_writable() && waits)
+}
+
 // Sends what waits for the connection, as far as its socket takes it. Where the socket fails, what waits is dropped.
-fn settle_one(connection: &mut Connection, outgoing: &mut Outgoing)
+fn settle_one(connection: &mut Connection, now: Instant, outgoing: &mut Outgoing)
     ensures same { connection.new.number ≡ connection.old.number }
     ensures spare { outgoing.new.spare ≡ outgoing.old.spare }
 {
@@ -210,4 +252,5 @@ fn settle_one(connection: &mut Connection, outgoing: &mut Outgoing)
     if !outgoing.waits(connection.number) {
         connection.finish();
     }
+    connection.note_time(now);
 }
