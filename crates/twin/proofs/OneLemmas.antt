@@ -1,5 +1,5 @@
 -- A run comes to one count.
-use Rattle.std.proofs.Common.{◌≡◌, inl, inr, ℕ, suc, ◌+◌, ◌≤◌, Bool, true, List, [], ◌∷◌, ◌++◌, All, length, map, refl, sym, ◌∙◌, ap, subst, arith}
+use Rattle.std.proofs.Common.{◌≡◌, inl, inr, ℕ, suc, ◌+◌, Bool, true, List, [], ◌∷◌, ◌++◌, All, length, map, refl, sym, ◌∙◌, ap, subst, arith}
 use Rattle.std.specs.Prelude.{replicate}
 use Rattle.std.specs.List.{sum_by}
 use Rattle.std.proofs.lemmas.List.{length-append, replicate-append-replicate}
@@ -20,9 +20,8 @@ use Rattle.release_view.proofs.ViewLemmas.{one_by_texts}
 use Rattle.release_view.specs.declared.known.KnownVersion.{KnownVersion}
 use Rattle.schemas.specs.Cutoff.{cutoff}
 use Rattle.schemas.specs.Dated.{Dated}
-use Rattle.schemas.specs.Rules.{last_of}
 use Rattle.scripts.specs.declared.script.ScriptEvent.{ScriptEvent}
-use Rattle.served_history.specs.Releases.{FlagTexts, given}
+use Rattle.served_history.specs.Releases.{given}
 use Rattle.served_steps.proofs.EndLemmas.{have_one_end}
 use Rattle.served_steps.specs.Steps.{Exchange, Steps}
 use Rattle.session_course.specs.Sends.{exchange_of, exchanges}
@@ -36,7 +35,7 @@ use Rattle.workload.specs.Workload.{IsWorkload}
 use Rattle.world.specs.Tapes.{told}
 use Rattle.twin.proofs.TextsLemmas.{one_releases}
 use Rattle.twin.specs.Laws.{HasOneCount, HasOneTwin}
-use Rattle.twin.specs.Runs.{IsMachineOf, IsRun, IsRunOf, IsStateOf, IsTwin}
+use Rattle.twin.specs.Runs.{IsMachineOf, IsRun, IsRunOf, IsStateOf}
 use Rattle.twin.specs.declared.count.TwinCount.{TwinCount}
 
 -- ---- the state of an empty store

@@ -18,7 +18,7 @@ use Rattle.runtime_config.specs.declared.fault.ConfigFault.TheVariants as config
 use Rattle.schemas.proofs.LawLemmas.{gates_rise}
 use Rattle.schemas.specs.Dated.{Dated}
 use Rattle.schemas.specs.Rules.{IsAccepted, first_of, last_of}
-use Rattle.served_history.specs.Ends.{IsEmulatedFault, IsFeaturesFault, IsLeastFault, IsRuntimeFault}
+use Rattle.served_history.specs.Ends.{IsEmulatedFault, IsLeastFault, IsRuntimeFault}
 use Rattle.served_history.specs.Refusals.{IsTextsFault}
 use Rattle.served_history.specs.Releases.{Accepts, AreReleases, FlagTexts, given}
 use Rattle.served_history.specs.declared.fault.ServeFault.{ServeFault}
