@@ -1,5 +1,5 @@
 //! A workload on both sides.
-ghost use Rattle.std.specs.Prelude.{◌≤◌, IfErr, IfOk};
+ghost use Rattle.std.specs.Prelude.{◌≡◌, ◌↔◌, ◌≤◌, IsTrue, IfErr, IfOk};
 ghost use Rattle.history_fold.specs.Folded.{folded};
 ghost use Rattle.minor_version.specs.Ranges.{IsEmulable, IsMinimum};
 ghost use Rattle.schemas.specs.Cutoff.{cutoff};
@@ -75,6 +75,14 @@ fn run_folded(
     run_script(alloc, &folded, releases, features, runtime, drawing)
 }
 
+/// Whether both came to the same numbers.
+fn is_same_count(a: &TwinCount, b: &TwinCount) -> bool
+    ensures { IsTrue result ↔ ((a.now.requests ≡ b.now.requests) × (a.now.bytes ≡ b.now.bytes)
+        × (a.now.revision ≡ b.now.revision)) }
+{
+    a.requests == b.requests && a.bytes == b.bytes && a.revision == b.revision
+}
+
 /// Runs the script of `size` requests that `seed` makes for the release that the texts choose, each time over an empty store:
 /// by the folded history that emulates the release, and by the history that is cut at it, both with the minimum compatibility
 /// that the texts choose of the whole history. Tells what it came to.
@@ -110,7 +118,9 @@ pub fn twin(
         Drawing { seed, size },
     )?;
     // That both sides send the same follows from the laws of a history that is cut or folded; it is looked at all the same.
-    if own.count != other.count || !are_same(own.world.sends(), other.world.sends()) {
+    if !is_same_count(&own.count, &other.count)
+        || !are_same(own.world.sends(), other.world.sends())
+    {
         return Err(ServeFault::Memory);
     }
     Ok(own.count)
