@@ -1,5 +1,5 @@
 /* The client of bench/loopback, an echo server as its ceiling, and the bare writes and syncs of a durable change. One thread, `poll`.
- *   load client PORT CLIENTS REQUESTS KIND FIRST IDLE   kinds: get, list, post, put, page PATH-less: nginx, etcd_put, etcd_get
+ *   load client PORT CLIENTS REQUESTS KIND FIRST IDLE SPAN   kinds: get, list, post, put, nginx, etcd_put, etcd_get
  *   load echo PORT                                      answers each request with one fixed reply
  *   load syncs FILE COUNT                               (write and fsync) twice, so often
  * A client prints: requests a second, median and 99th percentile in microseconds, and how many replies weren't of 2xx. */
